@@ -1,0 +1,67 @@
+-- Laws of `filled`: a turn of the loop that fills, the length, and what stands at each place. Assumes nothing.
+use mathlib.Core.Path.{_≡_, refl, sym, ap, _∙_}
+use mathlib.Core.List.{List, _∷_}
+use Prim.Native.Nat.{ℕ, zero, suc, _+_, _≤_, _<_}
+use native.Mathlib.Nat.{not-suc-le-zero, le-of-suc-le-suc}
+use native.Mathlib.Numerals.{add-one}
+use native.Mathlib.Omega.{arith}
+use native.Mathlib.Decide.{decLe}
+use lib.ListN.{length, getD, set, replicate, length-replicate}
+use Rattle.readings.specs.Places.{filled}
+
+module _ {ℓ} {A : Type ℓ} (blank : A) where
+  pub filled-none : (width : ℕ) (f : ℕ → A) → filled blank width 0 f ≡ replicate width blank
+  unfolding filled
+  filled-none zero f = refl
+  filled-none (suc width) f = refl
+
+  filled-suc : (width i : ℕ) (f : ℕ → A) → i < width → set (filled blank width i f) i (f i) ≡ filled blank width (suc i) f
+  unfolding filled
+  filled-suc zero i f l = absurd (not-suc-le-zero l)
+  filled-suc (suc width) zero f l = ap (λ (t : List A). f 0 ∷ t) (sym (filled-none width (λ k. f (suc k))))
+  filled-suc (suc width) (suc i) f l = ap (λ (t : List A). f 0 ∷ t) (filled-suc width i (λ k. f (suc k)) (le-of-suc-le-suc l))
+
+  -- one place more
+  pub filled-more : (width i : ℕ) (f : ℕ → A) → i < width → set (filled blank width i f) i (f i) ≡ filled blank width (i + 1) f
+  filled-more width i f l = rw add-one (filled-suc width i f l)
+
+  pub filled-length : (width n : ℕ) (f : ℕ → A) → length (filled blank width n f) ≡ width
+  unfolding filled
+  filled-length zero n f = refl
+  filled-length (suc width) zero f = length-replicate (suc width) blank
+  filled-length (suc width) (suc n) f = ap suc (filled-length width n (λ k. f (suc k)))
+
+  blank-at : (width i : ℕ) → getD (replicate width blank) i blank ≡ blank
+  blank-at zero i = refl
+  blank-at (suc width) zero = refl
+  blank-at (suc width) (suc i) = blank-at width i
+
+  -- a place that is not in use
+  pub filled-behind : (width n i : ℕ) (f : ℕ → A) → n ≤ i → getD (filled blank width n f) i blank ≡ blank
+  unfolding filled
+  filled-behind zero n i f l = refl
+  filled-behind (suc width) zero i f l = blank-at (suc width) i
+  filled-behind (suc width) (suc n) zero f l = absurd (not-suc-le-zero l)
+  filled-behind (suc width) (suc n) (suc i) f l = filled-behind width n i (λ k. f (suc k)) (le-of-suc-le-suc l)
+
+  -- a place that is in use
+  pub filled-at : (width n i : ℕ) (f : ℕ → A) → i < n → i < width → getD (filled blank width n f) i blank ≡ f i
+  unfolding filled
+  filled-at zero n i f l k = absurd (not-suc-le-zero k)
+  filled-at (suc width) zero i f l k = absurd (not-suc-le-zero l)
+  filled-at (suc width) (suc n) zero f l k = refl
+  filled-at (suc width) (suc n) (suc i) f l k = filled-at width n i (λ k. f (suc k)) (le-of-suc-le-suc l) (le-of-suc-le-suc k)
+
+  filled-full : (width n : ℕ) (f : ℕ → A) → width ≤ n → filled blank width width f ≡ filled blank width n f
+  unfolding filled
+  filled-full zero n f l = refl
+  filled-full (suc width) zero f l = absurd (not-suc-le-zero l)
+  filled-full (suc width) (suc n) f l = ap (λ (t : List A). f 0 ∷ t) (filled-full width n (λ k. f (suc k)) (le-of-suc-le-suc l))
+
+  -- no more places are in use than there are
+  pub filled-most : (width m n : ℕ) (f : ℕ → A) → (m ≤ width → n ≡ m) → (width ≤ m → n ≡ width) → filled blank width n f ≡ filled blank width m f
+  filled-most width m n f few many = by (decLe width m)
+    where
+      by : Dec (width ≤ m) → filled blank width n f ≡ filled blank width m f
+      by (yes h) = ap (λ (k : ℕ). filled blank width k f) (many h) ∙ filled-full width m f h
+      by (no h) = ap (λ (k : ℕ). filled blank width k f) (few (omega arith))

@@ -1,0 +1,12 @@
+pub mod Tests
+pub mod Boxes
+pub mod Rows
+pub mod Facts
+pub mod Growth
+pub mod Ties
+pub mod Moves
+pub mod Steps
+pub mod Periods
+pub mod Longest
+pub mod Agreement
+pub mod Examples

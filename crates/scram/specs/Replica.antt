@@ -1,0 +1,90 @@
+-- What a replica holds, what it is given and what a step gives, over any law (document 01, "What a replica holds" and "Frames").
+use mathlib.Core.Bool.{Bool, false}
+use mathlib.Core.List.{List}
+use mathlib.Core.Option.{Option}
+use Prim.Native.Nat.{ℕ}
+pub use Rattle.scram.specs.declared.Kind.{Kind}
+pub use Rattle.scram.specs.declared.Kind.the-variants.{Propose, Ack, Decide, Estimate}
+pub use Rattle.scram.specs.declared.Answer.{Answer}
+pub use Rattle.scram.specs.declared.Answer.the-variants.{Done, Ignored, Refused}
+use Rattle.scram.specs.Quorum.{nobody}
+
+-- a deterministic law, as the protocol sees it: its update, the starting state, a row with no reading, and what stands where there is no state
+pub record Law (State Readings : Type 0) : Type 0 where
+  pub update : State → Readings → State
+  pub start : State
+  pub none : Readings
+  pub blank : State
+
+-- the group: its size N, the boxes needed to decide, the boxes heard before a new coordinator proposes, and who coordinates each view
+pub record Group : Type 0 where
+  pub size : ℕ
+  pub toDecide : ℕ
+  pub toPropose : ℕ
+  pub coordinator : ℕ → ℕ
+
+-- "the best estimate heard": whether there is one, the box that it came from, its bases, and the estimate
+pub record Best (State Readings : Type 0) : Type 0 where
+  pub any : Bool
+  pub box : ℕ
+  pub baseView : ℕ
+  pub basePeriod : ℕ
+  pub state : State
+  pub readings : Readings
+
+-- "Period, view and base view (each 32 bits), mode (normal or view change), whether this period is decided, an estimate (state,
+-- readings, base period), the boxes heard (Acks or Estimates) and, in a view change, the best estimate heard."
+pub record Replica (State Readings : Type 0) : Type 0 where
+  pub period : ℕ
+  pub view : ℕ
+  pub baseView : ℕ
+  pub viewChange : Bool
+  pub decided : Bool
+  pub state : State
+  pub readings : Readings
+  pub basePeriod : ℕ
+  pub heard : List Bool
+  pub best : Best State Readings
+
+-- a frame's fields; an Ack carries no part, and has a blank state and no reading
+pub record Message (State Readings : Type 0) : Type 0 where
+  pub kind : Kind
+  pub sender : ℕ
+  pub period : ℕ
+  pub view : ℕ
+  pub baseView : ℕ
+  pub basePeriod : ℕ
+  pub state : State
+  pub readings : Readings
+
+-- the command of a period: that of the state that the update gave
+pub record Command (State : Type 0) : Type 0 where
+  pub period : ℕ
+  pub state : State
+
+-- what a step gives; "Each event sends at most one frame."
+pub record Outcome (State Readings : Type 0) : Type 0 where
+  pub answer : Answer
+  pub replica : Replica State Readings
+  pub sent : Option (Message State Readings)
+  pub command : Option (Command State)
+
+module _ {State Readings : Type 0} (law : Law State Readings) where
+  -- no estimate heard yet
+  abbrev pub noBest : Best State Readings
+  noBest = record { any = false; box = 0; baseView = 0; basePeriod = 0; state = law .blank; readings = law .none }
+
+  -- "Fresh: all counters 0, normal, undecided, starting state, no reading, no box heard."
+  abbrev pub fresh : Replica State Readings
+  fresh = record {
+    period = 0;
+    view = 0;
+    baseView = 0;
+    viewChange = false;
+    decided = false;
+    state = law .start;
+    readings = law .none;
+    basePeriod = 0;
+    heard = nobody;
+    best = noBest;
+  }

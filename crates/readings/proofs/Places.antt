@@ -1,5 +1,5 @@
 -- Laws of `filled`: a turn of the loop that fills, the length, and what stands at each place. Assumes nothing.
-use mathlib.Core.Path.{_≡_, refl, sym, ap, _∙_}
+use mathlib.Core.Path.{_≡_, refl, sym, ap, ap₂, _∙_, subst}
 use mathlib.Core.List.{List, _∷_}
 use Prim.Native.Nat.{ℕ, zero, suc, _+_, _≤_, _<_}
 use native.Mathlib.Nat.{not-suc-le-zero, le-of-suc-le-suc}
@@ -31,7 +31,8 @@ module _ {ℓ} {A : Type ℓ} (blank : A) where
   filled-length (suc width) zero f = length-replicate (suc width) blank
   filled-length (suc width) (suc n) f = ap suc (filled-length width n (λ k. f (suc k)))
 
-  blank-at : (width i : ℕ) → getD (replicate width blank) i blank ≡ blank
+  -- a list of blanks
+  pub blank-at : (width i : ℕ) → getD (replicate width blank) i blank ≡ blank
   blank-at zero i = refl
   blank-at (suc width) zero = refl
   blank-at (suc width) (suc i) = blank-at width i
@@ -65,3 +66,25 @@ module _ {ℓ} {A : Type ℓ} (blank : A) where
       by : Dec (width ≤ m) → filled blank width n f ≡ filled blank width m f
       by (yes h) = ap (λ (k : ℕ). filled blank width k f) (many h) ∙ filled-full width m f h
       by (no h) = ap (λ (k : ℕ). filled blank width k f) (few (omega arith))
+
+  -- what is in use decides
+  pub filled-same : (width n : ℕ) (f g : ℕ → A) → ((i : ℕ) → i < n → i < width → f i ≡ g i) → filled blank width n f ≡ filled blank width n g
+  unfolding filled
+  filled-same zero n f g h = refl
+  filled-same (suc width) zero f g h = refl
+  filled-same (suc width) (suc n) f g h =
+      ap₂ (λ (a : A) (t : List A). a ∷ t) (h 0 (omega arith) (omega arith)) (filled-same width n (λ k. f (suc k)) (λ k. g (suc k)) (λ i l m. h (suc i) (omega arith) (omega arith)))
+
+  -- what holds of the blank and of each entry holds of what stands at each place
+  pub filled-each {κ} : (P : A → Type κ) (width n : ℕ) (f : ℕ → A) → P blank → ((i : ℕ) → P (f i)) → (j : ℕ) → P (getD (filled blank width n f) j blank)
+  unfolding filled
+  filled-each P zero n f z h j = z
+  filled-each P (suc width) zero f z h j = subst P (sym (blank-at (suc width) j)) z
+  filled-each P (suc width) (suc n) f z h zero = h 0
+  filled-each P (suc width) (suc n) f z h (suc j) = filled-each P width n (λ k. f (suc k)) z (λ k. h (suc k)) j
+
+  pub filled-blank : (width n : ℕ) → filled blank width n (λ _. blank) ≡ replicate width blank
+  unfolding filled
+  filled-blank zero n = refl
+  filled-blank (suc width) zero = refl
+  filled-blank (suc width) (suc n) = ap (λ (t : List A). blank ∷ t) (filled-blank width n)

@@ -1,0 +1,81 @@
+-- `frame::command::put_command` meets its contract: the four bytes, the period and the values are put one behind the other. Assumes nothing.
+use mathlib.Core.Path.{_≡_, refl}
+use mathlib.Core.List.{[], _∷_, _++_}
+use Prim.Native.Nat.{_+_}
+use native.Mathlib.Omega.{arith}
+use native.Mathlib.Nat.{sub-zero}
+use lib.ListN.{length, take, length-append}
+use Rattle.frame.specs.Bytes.{littleEndian, valuesBytes}
+use Rattle.frame.specs.Command.{commandBytes}
+use Rattle.frame.proofs.Numbers.{length-littleEndian}
+use Rattle.frame.proofs.Areas.{then-put}
+use Rattle.frame.proofs.ValueLists.{length-first}
+use borrow.Author.Needs.{needs}
+use Rattle.frame.proofs.command.put_command.Statement.{statement}
+use Rattle.frame.proofs.command.put_command.Tie as tie
+
+four : (c : tie.Start) → length (c .args .t3) ≡ 4
+four c = search needs
+
+cast-put-4 : tie.Need-cast-put-4
+cast-put-4 c = search needs
+
+put-4-requires : tie.Need-put-4-requires
+put-4-requires c κs = search needs
+
+put-u32-requires : tie.Need-put-u32-requires
+put-u32-requires c κs = search needs
+
+sub-put-values : tie.Need-sub-put-values
+sub-put-values c = search needs
+
+part-put-values-start : tie.Need-part-put-values-start
+part-put-values-start c = search needs
+
+part-put-values-end : tie.Need-part-put-values-end
+part-put-values-end c = search needs
+
+put-values-requires : tie.Need-put-values-requires
+put-values-requires c κs = search needs
+
+mul-result : tie.Need-mul-result
+mul-result c = search needs
+
+add-result : tie.Need-add-result
+add-result c = search needs
+
+same-length : tie.Need-same-length
+same-length c = search needs
+
+returns : tie.Need-returns
+unfolding commandBytes
+returns c =
+    let s = c .before .before .before .before .before .before .before .before .before .before .before .before .before .before .before in
+    let p = s .args .p in
+    let values = s .args .t3 in
+    let l = s .args .area .now in
+    let size = length-first p values (omega (arith, four s, s .pre .0)) in
+    let head = length-littleEndian 4 (s .args .period) in (
+      simp (length-append, head, size) (omega arith),
+      then-put l _ _ 0 8 ((5 ∷ p ∷ 0 ∷ 0 ∷ []) ++ littleEndian 4 (s .args .period)) (valuesBytes (take p values))
+          (then-put l _ _ 0 4 (5 ∷ p ∷ 0 ∷ 0 ∷ []) (littleEndian 4 (s .args .period)) (c .before .before .before .before .before .before .before .before .before .before .before .before .put-4 .ensures) (c .before .before .before .before .before .before .before .before .put-u32 .ensures) refl (omega (arith, head, s .pre)))
+          (rw sub-zero at (c .before .before .put-values .ensures))
+          (simp head)
+          (omega (arith, size, s .pre)),
+    )
+
+pub put-command-spec : {M : Type 1} → statement M
+put-command-spec =
+    tie.close
+    (tie.spec
+    cast-put-4
+    put-4-requires
+    put-u32-requires
+    sub-put-values
+    part-put-values-start
+    part-put-values-end
+    put-values-requires
+    mul-result
+    add-result
+    same-length
+    returns)

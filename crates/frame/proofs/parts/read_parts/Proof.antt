@@ -1,0 +1,111 @@
+-- `frame::parts::read_parts` meets its contract: the offsets and lengths that the frame gives are those of the two parts, since its pairs
+-- were looked at. Assumes nothing.
+use mathlib.Core.Path.{_≡_, _∙_}
+use Prim.Native.Nat.{_+_, _*_, _-_}
+use native.Mathlib.Omega.{arith}
+use lib.ListN.{length}
+use Rattle.frame.specs.Bytes.{part}
+use Rattle.frame.specs.Reading.{statePart, readingsPart}
+use Rattle.frame.proofs.Numbers.{length-part}
+use Rattle.frame.proofs.Areas.{part-of}
+use Rattle.frame.proofs.Conditions.{Pairs, pairs-facts}
+use borrow.Author.Needs.{needs}
+use Rattle.frame.proofs.parts.read_parts.Statement.{statement}
+use Rattle.frame.proofs.parts.read_parts.Tie as tie
+
+facts : (s : tie.Start) → Pairs (s .args .n) (s .args .m) (s .args .bytes .now)
+facts s = pairs-facts _ _ _ (s .pre .3)
+
+-- the parts that the pairs give are the state's and the readings'
+state-part : (c : tie.After-u16-at4)
+    → part (c .before .before .before .before .before .args .bytes .now) (c .before .before .before .u16-at .result) (c .before .before .before .u16-at .result + c .before .before .u16-at2 .result - c .before .before .before .u16-at .result)
+    ≡ statePart (c .before .before .before .before .before .args .n) (c .before .before .before .before .before .args .bytes .now)
+state-part c =
+    let f = facts (c .before .before .before .before .before) in part-of _ _ _ _ _ (c .before .before .before .u16-at .ensures ∙ f .at20) (c .before .before .u16-at2 .ensures ∙ f .at22)
+
+readings-part : (c : tie.After-u16-at4)
+    → part (c .before .before .before .before .before .args .bytes .now) (c .before .u16-at3 .result) (c .before .u16-at3 .result + c .u16-at4 .result - c .before .u16-at3 .result)
+    ≡ readingsPart (c .before .before .before .before .before .args .n) (c .before .before .before .before .before .args .m) (c .before .before .before .before .before .args .bytes .now)
+readings-part c =
+    let f = facts (c .before .before .before .before .before) in part-of _ _ _ _ _ (c .before .u16-at3 .ensures ∙ f .at24) (c .u16-at4 .ensures ∙ f .at26)
+
+readings-length : (s : tie.Start) → length (readingsPart (s .args .n) (s .args .m) (s .args .bytes .now)) ≡ 1 + 4 * s .args .m
+readings-length s =
+    length-part (s .args .bytes .now) (28 + 4 * s .args .n) (1 + 4 * s .args .m) (omega (arith, s .pre .2))
+
+u16-at-requires : tie.Need-u16-at-requires
+u16-at-requires c κs = search needs
+
+u16-at-requires-2 : tie.Need-u16-at-requires-2
+u16-at-requires-2 c κs = search needs
+
+add-state-end : tie.Need-add-state-end
+add-state-end c = let f = facts (c .before .before .before) in omega (arith, c .before .u16-at .ensures ∙ f .at20, c .u16-at2 .ensures ∙ f .at22, c .before .before .before .pre)
+
+u16-at-requires-3 : tie.Need-u16-at-requires-3
+u16-at-requires-3 c κs = search needs
+
+u16-at-requires-4 : tie.Need-u16-at-requires-4
+u16-at-requires-4 c κs = search needs
+
+add-readings-end : tie.Need-add-readings-end
+add-readings-end c = let f = facts (c .before .before .before .before .before) in omega (arith, c .before .u16-at3 .ensures ∙ f .at24, c .u16-at4 .ensures ∙ f .at26, c .before .before .before .before .before .pre)
+
+sub-read-state : tie.Need-sub-read-state
+sub-read-state c = search needs
+
+part-read-state-start : tie.Need-part-read-state-start
+part-read-state-start c = search needs
+
+part-read-state-end : tie.Need-part-read-state-end
+part-read-state-end c =
+    let f = facts (c .before .before .before .before .before) in omega (arith, c .before .before .before .u16-at .ensures ∙ f .at20, c .before .before .u16-at2 .ensures ∙ f .at22, c .before .before .before .before .before .pre)
+
+read-state-requires : tie.Need-read-state-requires
+read-state-requires c κs =
+    let s = c .before .before .before .before .before .before in
+    (s .pre .0, rw (state-part (c .before)) (length-part (s .args .bytes .now) 28 (4 * s .args .n) (omega (arith, s .pre .2))))
+
+sub-part : tie.Need-sub-part
+sub-part c = search needs
+
+part-part-start : tie.Need-part-part-start
+part-part-start c = search needs
+
+part-part-end : tie.Need-part-part-end
+part-part-end c =
+    let f = facts (c .before .before .before .before .before .before .before) in omega (arith, c .before .before .before .u16-at3 .ensures ∙ f .at24, c .before .before .u16-at4 .ensures ∙ f .at26, c .before .before .before .before .before .before .before .pre)
+
+shared-slice-read-marks : tie.Need-shared-slice-read-marks
+shared-slice-read-marks c =
+    let u = c .before .before .before .before in rw (readings-part u, readings-length (u .before .before .before .before .before)) (omega arith)
+
+read-readings-requires : tie.Need-read-readings-requires
+read-readings-requires c κs =
+    let u = c .before .before .before .before in (u .before .before .before .before .before .pre .1, rw (readings-part u) (readings-length (u .before .before .before .before .before)))
+
+returns : tie.Need-returns
+returns c =
+    let u = c .before .before .before .before .before in
+    (rw (state-part u) at (c .before .before .before .read-state .ensures), rw (readings-part u), rw (readings-part u) at (c .read-readings .ensures))
+
+pub read-parts-spec : {M : Type 1} → statement M
+read-parts-spec =
+    tie.close
+    (tie.spec
+    u16-at-requires
+    u16-at-requires-2
+    add-state-end
+    u16-at-requires-3
+    u16-at-requires-4
+    add-readings-end
+    sub-read-state
+    part-read-state-start
+    part-read-state-end
+    read-state-requires
+    sub-part
+    part-part-start
+    part-part-end
+    shared-slice-read-marks
+    read-readings-requires
+    returns)

@@ -1,0 +1,10 @@
+pub mod Answers
+pub mod Sizes
+pub mod Bytes
+pub mod Marks
+pub mod Format
+pub mod Fields
+pub mod Reading
+pub mod Writing
+pub mod Command
+pub mod Cases

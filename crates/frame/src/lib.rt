@@ -1,0 +1,231 @@
+// The frames of document 01: read from bytes, and written to an area that the caller lends.
+mod command;
+mod header;
+mod marks;
+mod parts;
+mod values;
+mod word;
+
+ghost use mathlib.Core.Path.{_≡_};
+ghost use Prim.Native.Nat.{_≤_};
+ghost use lib.ListN.{length};
+ghost use Rattle.frame.specs.Answers.{number};
+ghost use Rattle.frame.specs.Sizes.{sizesOk};
+ghost use Rattle.frame.specs.Bytes.{put, over};
+ghost use Rattle.frame.specs.Format.{frameBytes};
+ghost use Rattle.frame.specs.Fields.{blank, noReadings};
+ghost use Rattle.frame.specs.Reading.{readRefusal, readFrame};
+ghost use Rattle.frame.specs.Writing.{wellFormed, writeRefusal, written};
+ghost use Rattle.frame.specs.Command.{commandRefusal, commandWritten};
+use command::put_command;
+use header::ACK;
+use header::headed_by;
+use header::header_ok;
+use header::kind_ok;
+use header::put_header;
+use marks::absent_zero;
+use marks::readings_ok;
+use parts::pairs_ok;
+use parts::put_pairs;
+use parts::put_parts;
+use parts::read_parts;
+use readings::Readings;
+
+// Kinds are 1 Propose, 2 Ack, 3 Decide and 4 Estimate. An Ack carries no state and no readings.
+pub struct Frame {
+    pub kind: u8,
+    pub sender: u8,
+    pub period: u32,
+    pub view: u32,
+    pub base_view: u32,
+    pub base_period: u32,
+    pub state: [i32; 6],
+    pub readings: Readings,
+}
+
+// Done: nothing is refused. Sizes is refusal 2, Area 5 and Malformed 8.
+pub enum Answer {
+    Done,
+    Sizes,
+    Area,
+    Malformed,
+}
+
+// The frame is blank where reading is refused.
+pub struct Parsed {
+    pub answer: Answer,
+    pub frame: Frame,
+}
+
+// The length is 0 where writing is refused.
+pub struct Written {
+    pub answer: Answer,
+    pub length: usize,
+}
+
+// n states and m readings are within their ranges.
+fn sizes_ok(n: usize, m: usize) -> bool
+    ensures { λ r. ⌜ r ≡ sizesOk n m ⌝ }
+{
+    if n < 1 {
+        return false;
+    }
+    if 6 < n {
+        return false;
+    }
+    if m < 1 {
+        return false;
+    }
+    m <= 4
+}
+
+fn no_readings() -> Readings
+    ensures { λ r. ⌜ r ≡ noReadings ⌝ }
+{
+    Readings {
+        present: [false; 4],
+        values: [0i32; 4],
+    }
+}
+
+// What a refused reading gives: a blank frame.
+fn refused_read(answer: Answer) -> Parsed
+    ensures { λ r. ⌜ (r .answer ≡ answer) × (r .frame ≡ blank) ⌝ }
+{
+    let readings = no_readings();
+    Parsed {
+        answer,
+        frame: Frame {
+            kind: 0,
+            sender: 0,
+            period: 0,
+            view: 0,
+            base_view: 0,
+            base_period: 0,
+            state: [0i32; 6],
+            readings,
+        },
+    }
+}
+
+// What a refused writing gives: no byte.
+fn refused_write(answer: Answer) -> Written
+    ensures { λ r. ⌜ (r .answer ≡ answer) × (r .length ≡ 0) ⌝ }
+{
+    Written { answer, length: 0 }
+}
+
+// Reads a frame of n states and m readings.
+pub fn read(n: usize, m: usize, bytes: &[u8]) -> Parsed
+    ensures answer { λ r. ⌜ number (r .answer) ≡ readRefusal n m (now (bytes .entry)) ⌝ }
+    ensures frame { λ r. ⌜ r .frame ≡ readFrame n m (now (bytes .entry)) ⌝ }
+{
+    if !sizes_ok(n, m) {
+        return refused_read(Answer::Sizes);
+    }
+    if !header_ok(n, m, bytes) {
+        return refused_read(Answer::Malformed);
+    }
+    let kind = bytes[0];
+    if kind == ACK {
+        let frame = headed_by(bytes, [0i32; 6], no_readings());
+        return Parsed {
+            answer: Answer::Done,
+            frame,
+        };
+    }
+    if !pairs_ok(n, m, bytes) {
+        return refused_read(Answer::Malformed);
+    }
+    let parts = read_parts(n, m, bytes);
+    let readings = parts.readings;
+    if !readings_ok(m, parts.marks, readings) {
+        return refused_read(Answer::Malformed);
+    }
+    let state = parts.state;
+    let frame = headed_by(bytes, state, readings);
+    Parsed {
+        answer: Answer::Done,
+        frame,
+    }
+}
+
+// A kind that there is; marks and absent values that a frame can hold.
+fn well_formed(m: usize, frame: Frame) -> bool
+    requires { ⌜ m ≤ 4 ⌝ }
+    ensures { λ r. ⌜ r ≡ wellFormed m frame ⌝ }
+{
+    let kind = frame.kind;
+    if !kind_ok(kind) {
+        return false;
+    }
+    if kind == ACK {
+        return true;
+    }
+    let readings = frame.readings;
+    if readings::has_stray_mark(m, readings) {
+        return false;
+    }
+    absent_zero(m, readings)
+}
+
+// Writes a frame and returns its length.
+fn put_frame(n: usize, m: usize, frame: Frame, area: &mut [u8]) -> usize
+    requires { ⌜ (n ≤ 6) × (m ≤ 4) × (69 ≤ length (now area)) ⌝ }
+    ensures { λ r. ⌜ (r ≡ length (frameBytes n m frame)) × (now (area .exit) ≡ put (now (area .entry)) 0 (frameBytes n m frame)) ⌝ }
+{
+    put_header(frame, area);
+    let kind = frame.kind;
+    if kind == ACK {
+        return 20;
+    }
+    put_pairs(n, m, area);
+    let state = frame.state;
+    let readings = frame.readings;
+    put_parts(n, m, state, readings, area);
+    29 + 4 * n + 4 * m
+}
+
+// Writes a frame of n states and m readings to the start of an area.
+pub fn write(n: usize, m: usize, frame: Frame, area: &mut [u8]) -> Written
+    ensures answer { λ r. ⌜ number (r .answer) ≡ writeRefusal n m frame (now (area .entry)) ⌝ }
+    ensures count { λ r. ⌜ r .length ≡ length (written n m frame (now (area .entry))) ⌝ }
+    ensures bytes { λ _. ⌜ now (area .exit) ≡ over (written n m frame (now (area .entry))) (now (area .entry)) ⌝ }
+{
+    if !sizes_ok(n, m) {
+        return refused_write(Answer::Sizes);
+    }
+    if area.len() < 69 {
+        return refused_write(Answer::Area);
+    }
+    if !well_formed(m, frame) {
+        return refused_write(Answer::Malformed);
+    }
+    let length = put_frame(n, m, frame, area);
+    Written {
+        answer: Answer::Done,
+        length,
+    }
+}
+
+// Writes a command of p values to the start of an area.
+pub fn write_command(p: usize, period: u32, values: [i32; 4], area: &mut [u8]) -> Written
+    ensures answer { λ r. ⌜ number (r .answer) ≡ commandRefusal p (now (area .entry)) ⌝ }
+    ensures count { λ r. ⌜ r .length ≡ length (commandWritten p period values (now (area .entry))) ⌝ }
+    ensures bytes { λ _. ⌜ now (area .exit) ≡ over (commandWritten p period values (now (area .entry))) (now (area .entry)) ⌝ }
+{
+    if p < 1 {
+        return refused_write(Answer::Sizes);
+    }
+    if 4 < p {
+        return refused_write(Answer::Sizes);
+    }
+    if area.len() < 24 {
+        return refused_write(Answer::Area);
+    }
+    let length = put_command(p, period, values, area);
+    Written {
+        answer: Answer::Done,
+        length,
+    }
+}

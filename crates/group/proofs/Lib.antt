@@ -1,0 +1,5 @@
+pub mod Typed
+pub mod Reread
+pub mod Calls
+pub mod Theorem
+pub mod Meaning

@@ -1,0 +1,15 @@
+-- DEMAND 3 for the replica: for any group whose settings making accepts and any history of document 01, one run of a single controller
+-- serves all decided periods, and each command written is its command, byte for byte.
+use Prim.Native.Nat.{ℕ}
+use mathlib.Core.Path.{_≡_}
+use mathlib.Core.List.{List}
+use Rattle.scram.specs.Demand3.{Entry, Demand3}
+use Rattle.law.specs.declared.Settings as Law
+use Rattle.replica.specs.Settings.{settingsRefusal, lawOf}
+use Rattle.group.specs.Group.{AllI32, Handed, Areas, settingsOf, group}
+
+-- N boxes, a law whose starting state has i32 values as its type says, settings that making accepts, any history
+abbrev pub DemandThree : Type 0
+DemandThree =
+    (N : ℕ) (law : Law.Settings) → AllI32 (law .start) → settingsRefusal (settingsOf N law 1) ≡ 0
+    → (h : List (Entry Handed Areas)) → Demand3 (group N law) (lawOf (settingsOf N law 1)) h

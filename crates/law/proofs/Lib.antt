@@ -1,0 +1,7 @@
+mod Booleans
+mod Integers
+mod Division
+mod Sums
+mod Formulas
+pub mod Accepted
+pub mod Laws

@@ -1,0 +1,12 @@
+-- `law::ranges::also_in_range` meets its contract. Assumes nothing.
+use mir.Facts.{toZ-ofZ}
+use Rattle.law.specs.Settings.{inRange}
+use Rattle.law.proofs.ranges.also_in_range.Statement.{statement}
+use Rattle.law.proofs.ranges.also_in_range.Tie as tie
+
+returns : tie.Need-returns
+unfolding inRange
+returns c = simp (toZ-ofZ, c .fits .coefficient)
+
+pub also-in-range-spec : {M : Type 1} → statement M
+also-in-range-spec = tie.close (tie.spec returns)

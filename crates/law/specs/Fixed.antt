@@ -1,0 +1,31 @@
+-- Fixed point: the numbers are whole, and a coefficient counts units of 1/65536. Sums are over the integers of mathematics, where nothing overflows.
+use Prim.Native.Nat.{ℕ, zero, suc, _*_, _/_}
+use mathlib.Core.Bool.{cond}
+use lib.IntN.{ℤ, pos, negsuc, negℤ, _+ℤ_}
+use lib.Signed.{ltZ}
+
+-- −n
+abbrev pub minus : ℕ → ℤ
+minus n = negℤ (pos n)
+
+-- "Division rounds toward minus infinity": z / 65536. `negsuc a` is −(a + 1), and what it rounds to is −(a / 65536 + 1)
+unfoldable pub divided : ℤ → ℤ
+divided (pos a) = pos (a / 65536)
+divided (negsuc a) = negsuc (a / 65536)
+
+-- "sum over i", i counted from 0: f 0 + .. + f (n − 1)
+unfoldable pub sum : ℕ → (ℕ → ℤ) → ℤ
+sum zero f = pos 0
+sum (suc n) f = sum n f +ℤ f n
+
+-- "brought into its own limits": the lower limit where z is below it, the upper where z is above it, else z
+unfoldable pub limited : ℤ → ℤ → ℤ → ℤ
+limited lower upper z = cond (ltZ z lower) lower (cond (ltZ upper z) upper z)
+
+-- "Clamp means: into the i32 range."
+unfoldable pub clamp : ℤ → ℤ
+clamp z = limited (minus 2147483648) (pos 2147483647) z
+
+-- the size of the largest product of a coefficient and an i32
+abbrev pub largestProduct : ℕ
+largestProduct = 16777216 * 2147483648

@@ -1,0 +1,34 @@
+-- The law, formula by formula. x is a state, y a row of readings; A, L, C and K are tables by row and column.
+use Prim.Native.Nat.{ℕ}
+use mathlib.Core.Bool.{cond}
+use mathlib.Core.List.{List}
+use lib.ListN.{replicate}
+use lib.IntN.{ℤ, pos, _+ℤ_, _-ℤ_, _*ℤ_}
+use Rattle.readings.specs.declared.Readings.{Readings}
+use Rattle.readings.specs.Places.{entry, filled}
+use Rattle.readings.specs.Readings.{present, value}
+use Rattle.law.specs.declared.Settings.{Settings}
+use Rattle.law.specs.Fixed.{divided, sum, limited, clamp}
+use Rattle.law.specs.Settings.{A, L, C, K, lower, upper, stands}
+
+-- "For a present reading j: e(j) = clamp(y(j) − (sum over i of C(j,i) × x(i)) / 65536). For an absent one e(j) = 0."
+-- `value` is "A value given under an absent mark is read as 0."
+unfoldable pub e : (C : ℕ → ℕ → ℤ) (n : ℕ) (x : List ℤ) (y : Readings) (j : ℕ) → ℤ
+e C n x y j = cond (present y j) (clamp (value y j -ℤ divided (sum n (λ i. C j i *ℤ entry x i)))) (pos 0)
+
+-- "Update: x'(i) = clamp((sum of A(i,j) × x(j) + sum of L(i,j) × e(j)) / 65536), one division for both sums."
+-- "A already carries the effect of the command", so no command stands here
+unfoldable pub next : (A L : ℕ → ℕ → ℤ) (n m : ℕ) (x : List ℤ) (e : ℕ → ℤ) (i : ℕ) → ℤ
+next A L n m x e i = clamp (divided (sum n (λ j. A i j *ℤ entry x j) +ℤ sum m (λ j. L i j *ℤ e j)))
+
+-- "Command j: (sum of K(j,i) × x(i)) / 65536, brought into its own limits."
+unfoldable pub command : (K : ℕ → ℕ → ℤ) (lower upper : ℕ → ℤ) (n : ℕ) (x : List ℤ) (j : ℕ) → ℤ
+command K lower upper n x j = limited (lower j) (upper j) (divided (sum n (λ i. K j i *ℤ entry x i)))
+
+-- the state after a period; "Places .. beyond n .. are not looked at" and come back as 0. Refused settings leave the state as it was
+unfoldable pub updated : Settings → List ℤ → Readings → List ℤ
+updated s x y = cond (stands s) (filled (pos 0) 6 (s .n) (next (A s) (L s) (s .n) (s .m) x (e (C s) (s .n) x y))) x
+
+-- the commands of a state, and 0 in the places beyond p. Refused settings give 0 in each place
+unfoldable pub commanded : Settings → List ℤ → List ℤ
+commanded s x = cond (stands s) (filled (pos 0) 4 (s .p) (command (K s) (lower s) (upper s) (s .n) x)) (replicate 4 (pos 0))

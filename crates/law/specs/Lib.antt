@@ -1,0 +1,5 @@
+pub mod Fixed
+pub mod Rounding
+pub mod Settings
+pub mod Answer
+pub mod Law

@@ -1,0 +1,63 @@
+// Fixed point in i64: the division by 65536, limits, and sums of products with coefficients.
+ghost use mathlib.Core.Path.{_≡_};
+ghost use mathlib.Core.Bool.{true};
+ghost use Prim.Native.Nat.{_+_, _*_, _≤_};
+ghost use lib.ListN.{length};
+ghost use lib.IntN.{natAbs, _+ℤ_, _*ℤ_};
+ghost use Rattle.readings.specs.Places.{entry};
+ghost use Rattle.law.specs.Fixed.{divided, sum, limited, clamp, largestProduct};
+ghost use Rattle.law.specs.Settings.{every, inRange};
+
+// x / 65536 rounded toward minus infinity. `/` alone rounds toward zero, which is one too high where the remainder is below zero.
+pub(crate) fn divide(x: i64) -> i64
+    ensures { λ r. ⌜ r ≡ divided x ⌝ }
+{
+    let quotient = x / 65536;
+    if x % 65536 < 0 {
+        return quotient - 1;
+    }
+    quotient
+}
+
+// x brought into the limits.
+pub(crate) fn limit(x: i64, low: i32, high: i32) -> i32
+    ensures { λ r. ⌜ r ≡ limited low high x ⌝ }
+{
+    if x < (low as i64) {
+        return low;
+    }
+    if (high as i64) < x {
+        return high;
+    }
+    x as i32
+}
+
+// x brought into the i32 range.
+pub(crate) fn clamp_i32(x: i64) -> i32
+    ensures { λ r. ⌜ r ≡ clamp x ⌝ }
+{
+    limit(x, -2147483648, 2147483647)
+}
+
+// One product more in a sum of at most six, which leaves room in i64.
+fn add_product(total: i64, coefficient: i32, x: i32) -> i64
+    requires { ⌜ (natAbs total ≤ 6 * largestProduct) × (inRange coefficient ≡ true) ⌝ }
+    ensures { λ r. ⌜ r ≡ total +ℤ coefficient *ℤ x ⌝ }
+{
+    total + (coefficient as i64) * (x as i64)
+}
+
+// The sum over i below n of table(at + i) × x(i).
+pub(crate) fn sum_of_products(table: &[i32], at: usize, x: &[i32], n: usize) -> i64
+    requires { ⌜ (n ≤ 6) × (at + n ≤ length (now table)) × (n ≤ length (now x)) × (every n (λ i. inRange (entry (now table) (at + i))) ≡ true) ⌝ }
+    ensures value { λ r. ⌜ r ≡ sum n (λ i. entry (now (table .entry)) (at + i) *ℤ entry (now (x .entry)) i) ⌝ }
+    ensures size { λ r. ⌜ natAbs r ≤ n * largestProduct ⌝ }
+{
+    let mut total: i64 = 0;
+    let mut i = 0;
+    while i < n {
+        total = add_product(total, table[at + i], x[i]);
+        i += 1;
+    }
+    total
+}

@@ -1,0 +1,4 @@
+pub mod Accepted
+pub mod Calls
+pub mod Given
+pub mod Written

@@ -1,0 +1,13 @@
+-- `no_best` meets its contract. Assumes nothing.
+use borrow.Author.Needs.{needs}
+use Rattle.replica.proofs.moves.no_best.Statement.{statement}
+use Rattle.replica.proofs.moves.no_best.Tie as tie
+
+no-readings-requires : tie.Need-no-readings-requires
+no-readings-requires c κs = search needs
+
+returns : tie.Need-returns
+returns c = rw (c .no-readings .ensures)
+
+pub no-best-spec : {M : Type 1} → statement M
+no-best-spec = tie.close (tie.spec no-readings-requires returns)

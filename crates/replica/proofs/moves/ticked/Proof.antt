@@ -1,0 +1,23 @@
+-- `ticked` meets its contract. Assumes nothing.
+use borrow.Author.Needs.{needs}
+use Rattle.replica.proofs.moves.ticked.Statement.{statement}
+use Rattle.replica.proofs.moves.ticked.Tie as tie
+
+next-state-requires : tie.Need-next-state-requires
+next-state-requires c κs = search needs
+
+normalise-requires : tie.Need-normalise-requires
+normalise-requires c κs = search needs
+
+no-best-requires : tie.Need-no-best-requires
+no-best-requires c κs = search needs
+
+add-next : tie.Need-add-next
+add-next c = search needs
+
+returns : tie.Need-returns
+returns c = rw (c .before .before .before .before .next-state .ensures, c .before .before .before .normalise .ensures, c .before .before .no-best .ensures)
+
+pub ticked-spec : {M : Type 1} → statement M
+ticked-spec =
+    tie.close (tie.spec next-state-requires normalise-requires no-best-requires add-next returns)

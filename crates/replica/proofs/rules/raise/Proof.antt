@@ -1,0 +1,44 @@
+-- `raise` meets its contract. Assumes nothing.
+use mathlib.Core.Path.{refl, sym, _∙_}
+use native.Mathlib.Omega.{arith}
+use Rattle.scram.specs.Events.{raise}
+use Rattle.replica.proofs.Accepted.{accepted}
+use Rattle.replica.proofs.Given.{gives-true, gives-false}
+use borrow.Author.Needs.{needs}
+use Rattle.replica.proofs.rules.raise.Statement.{statement}
+use Rattle.replica.proofs.rules.raise.Tie as tie
+
+add-view : tie.Need-add-view
+add-view c = search needs
+
+leads-requires : tie.Need-leads-requires
+leads-requires c κs = search needs
+
+entered-requires : tie.Need-entered-requires
+entered-requires c κs = let g = accepted _ (c .before .before .before .before .pre .0) .group in omega (arith, g .ownN, g .N9)
+
+returns : tie.Need-returns
+unfolding raise
+returns c = gives-true _ _ (sym (c .before .before .leads .ensures) ∙ c .before .if1 .taken) (record { answer = refl; replica = c .entered .ensures; frame-length = refl; command-length = refl; frame-bytes = refl; command-bytes = refl })
+
+follow-requires : tie.Need-follow-requires
+follow-requires c κs = search needs
+
+same-length : tie.Need-same-length
+same-length c = search needs
+
+returns-2 : tie.Need-returns-2
+unfolding raise
+returns-2 c = gives-false _ _ (sym (c .before .before .before .before .before .leads .ensures) ∙ c .before .before .before .before .if1 .left) (c .before .before .follow .ensures)
+
+pub raise-spec : {M : Type 1} → statement M
+raise-spec =
+    tie.close
+    (tie.spec
+    add-view
+    leads-requires
+    entered-requires
+    returns
+    follow-requires
+    same-length
+    returns-2)

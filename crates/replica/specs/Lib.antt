@@ -1,0 +1,5 @@
+pub mod Settings
+pub mod Held
+pub mod Frames
+pub mod Calls
+pub mod Ready

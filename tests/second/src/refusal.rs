@@ -1,0 +1,47 @@
+//! Document 01, "Where each refusal is made".
+
+use std::fmt;
+
+/// A refusal; its value as `u8` is the number in document 01's table.
+#[derive(Clone, Copy, Debug, PartialEq, Eq)]
+#[repr(u8)]
+pub enum Refusal {
+    /// "N not 3 to 9, or own number not 1 to N"
+    Group = 1,
+    /// "n, m or p outside its range"
+    Sizes = 2,
+    /// "a coefficient outside its range"
+    Coefficient = 3,
+    /// "a lower limit above its upper"
+    Limits = 4,
+    /// "frame area under 69 bytes or command area under 24"
+    Areas = 5,
+    /// "period already 4,294,967,295"
+    LastPeriod = 6,
+    /// "a present mark at or above m"
+    Marks = 7,
+    /// "length, kind, part count, byte 3, pairs, marks or absent values not as above"
+    Form = 8,
+    /// "sender not 1 to N, or the own number"
+    Sender = 9,
+    /// "Propose or Decide not from its view's coordinator; Ack or Estimate at a box that isn't"
+    Coordinator = 10,
+    /// "base fields not as above"
+    Bases = 11,
+    /// "view already 4,294,967,295"
+    LastView = 12,
+}
+
+impl Refusal {
+    /// The number in document 01's table.
+    pub fn number(self) -> u8 {
+        self as u8
+    }
+}
+
+/// "`r` and the number, as `r9`"
+impl fmt::Display for Refusal {
+    fn fmt(&self, out: &mut fmt::Formatter<'_>) -> fmt::Result {
+        write!(out, "r{}", self.number())
+    }
+}

@@ -1,0 +1,616 @@
+//! Document 01, "What a replica holds", "Events" and "Where each refusal is
+//! made": one replica as a value that takes events.
+
+use crate::fault::{planted, Fault};
+use crate::frame::{self, Frame, ACK, DECIDE, ESTIMATE, PROPOSE};
+use crate::law::{self, Command, Readings, Settings, State};
+use crate::refusal::Refusal;
+
+/// "Group size N, 3 to 9"
+pub const LEAST_BOXES: u8 = 3;
+pub const MOST_BOXES: u8 = 9;
+
+/// "a majority is N/2 rounded down, plus 1"
+pub fn majority(boxes: u8) -> u8 {
+    if planted(Fault::QuorumSmaller) {
+        return boxes / 2;
+    }
+    boxes / 2 + 1
+}
+
+/// "The coordinator of view v is box (v mod N) + 1." Only for N not 0.
+pub fn coordinator(boxes: u8, view: u32) -> u8 {
+    let zero_based = view % u32::from(boxes);
+    u8::try_from(zero_based).expect("below N") + 1
+}
+
+/// Refusal 1: "N not 3 to 9, or own number not 1 to N".
+pub fn check_group(boxes: u8, own: u8) -> Result<(), Refusal> {
+    if (LEAST_BOXES..=MOST_BOXES).contains(&boxes) && (1..=boxes).contains(&own) {
+        Ok(())
+    } else {
+        Err(Refusal::Group)
+    }
+}
+
+#[derive(Clone, Copy, Debug, PartialEq, Eq)]
+pub enum Mode {
+    Normal,
+    ViewChange,
+}
+
+/// "an estimate (state, readings, base period)"
+#[derive(Clone, Copy, Debug, PartialEq, Eq)]
+pub struct Estimate {
+    pub state: State,
+    pub readings: Readings,
+    pub base_period: u32,
+}
+
+/// An estimate heard in a view change, with what it is compared by.
+#[derive(Clone, Copy, Debug, PartialEq, Eq)]
+pub struct Heard {
+    pub from: u8,
+    pub base_view: u32,
+    pub estimate: Estimate,
+}
+
+impl Heard {
+    /// "Best is the largest base view, then the largest base period, then the
+    /// lowest box number."
+    pub fn beats(&self, other: &Heard) -> bool {
+        let bases = |heard: &Heard| {
+            if planted(Fault::BasePeriodFirst) {
+                return (heard.estimate.base_period, heard.base_view);
+            }
+            (heard.base_view, heard.estimate.base_period)
+        };
+        let (own, others) = (bases(self), bases(other));
+        own > others || own == others && self.from < other.from
+    }
+}
+
+/// What an event came to.
+#[derive(Clone, Copy, Debug, PartialEq, Eq)]
+pub enum Answer {
+    Ok,
+    Ignored,
+    Refused(Refusal),
+}
+
+/// "A step gives the length written to each area; where that is 0 the whole
+/// area keeps what it held."
+#[derive(Clone, Copy, Debug, PartialEq, Eq)]
+pub struct Step {
+    pub answer: Answer,
+    pub frame_length: usize,
+    pub command_length: usize,
+}
+
+/// The areas lent to a step.
+pub struct Areas<'a> {
+    pub frame: &'a mut [u8],
+    pub command: &'a mut [u8],
+}
+
+/// What an event that takes place sends. "Each event sends at most one frame."
+#[derive(Default)]
+struct Sent {
+    frame: Option<Frame>,
+    command: Option<Command>,
+}
+
+/// What a rule does with an event; nothing is sent for one that is ignored.
+enum Outcome {
+    Ignored,
+    Done(Sent),
+}
+
+/// One replica. Its fields may hold anything; every step looks at the
+/// settings among them first.
+#[derive(Clone, Copy, Debug, PartialEq, Eq)]
+pub struct Replica {
+    /// N
+    pub boxes: u8,
+    /// The own number.
+    pub own: u8,
+    pub settings: Settings,
+    pub period: u32,
+    pub view: u32,
+    pub base_view: u32,
+    pub mode: Mode,
+    pub decided: bool,
+    pub estimate: Estimate,
+    /// "the boxes heard (Acks or Estimates)"; box b at place b − 1.
+    pub heard: [bool; MOST_BOXES as usize],
+    /// "in a view change, the best estimate heard"
+    pub best: Option<Heard>,
+}
+
+impl Replica {
+    /// A fresh replica: "all counters 0, normal, undecided, starting state,
+    /// no reading, no box heard". Refuses settings by 1 to 4.
+    pub fn new(boxes: u8, own: u8, settings: Settings) -> Result<Replica, Refusal> {
+        check_group(boxes, own)?;
+        law::check(&settings)?;
+        let mut state = State::default();
+        let n = usize::from(settings.n);
+        state[..n].copy_from_slice(&settings.start[..n]);
+        Ok(Replica {
+            boxes,
+            own,
+            settings,
+            period: 0,
+            view: 0,
+            base_view: 0,
+            mode: Mode::Normal,
+            decided: false,
+            estimate: Estimate {
+                state,
+                readings: Readings::default(),
+                base_period: 0,
+            },
+            heard: [false; MOST_BOXES as usize],
+            best: None,
+        })
+    }
+
+    /// "Tick with readings."
+    pub fn tick(self, readings: &Readings, areas: Areas) -> (Replica, Step) {
+        self.step(areas, |replica| replica.on_tick(readings))
+    }
+
+    /// "Give up the view."
+    pub fn give_up(self, areas: Areas) -> (Replica, Step) {
+        self.step(areas, Replica::on_give_up)
+    }
+
+    /// A frame arrives.
+    pub fn arrive(self, bytes: &[u8], areas: Areas) -> (Replica, Step) {
+        self.step(areas, |replica| replica.on_frame(bytes))
+    }
+
+    /// Runs one event. "A refusal returns its number, no frame and no
+    /// command"; refused or ignored, the replica comes back unchanged.
+    fn step(
+        self,
+        areas: Areas,
+        event: impl FnOnce(&mut Replica) -> Result<Outcome, Refusal>,
+    ) -> (Replica, Step) {
+        let mut next = self;
+        match next.run(areas, event) {
+            Ok(step) if step.answer == Answer::Ok => (next, step),
+            Ok(step) => (self, step),
+            Err(refusal) => (self, Step::silent(Answer::Refused(refusal))),
+        }
+    }
+
+    /// "settings in it that 1 to 4 would refuse get that number, before the
+    /// lent areas"; "lent areas are looked at before the event."
+    fn run(
+        &mut self,
+        areas: Areas,
+        event: impl FnOnce(&mut Replica) -> Result<Outcome, Refusal>,
+    ) -> Result<Step, Refusal> {
+        check_group(self.boxes, self.own)?;
+        law::check(&self.settings)?;
+        areas.check()?;
+        match event(self)? {
+            Outcome::Ignored => Ok(Step::silent(Answer::Ignored)),
+            Outcome::Done(sent) => self.write(&sent, areas),
+        }
+    }
+
+    fn write(&self, sent: &Sent, areas: Areas) -> Result<Step, Refusal> {
+        let Settings { n, m, p, .. } = self.settings;
+        let mut step = Step::silent(Answer::Ok);
+        if let Some(frame) = &sent.frame {
+            step.frame_length = frame::write(n, m, frame, areas.frame)?;
+        }
+        if let Some(command) = &sent.command {
+            step.command_length = frame::write_command(p, self.period, command, areas.command)?;
+        }
+        Ok(step)
+    }
+
+    // The events.
+
+    /// "The state becomes Update of the estimate's state and readings, except
+    /// on the first tick (period 0 to 1). Period rises by 1, the readings are
+    /// taken, base view and base period stay, decided is cleared. In
+    /// view-change mode the view is then raised. In normal mode a coordinator
+    /// proposes."
+    fn on_tick(&mut self, readings: &Readings) -> Result<Outcome, Refusal> {
+        if self.period == u32::MAX {
+            return Err(Refusal::LastPeriod);
+        }
+        if readings.has_marks_beyond(self.settings.m) {
+            return Err(Refusal::Marks);
+        }
+        if self.tick_updates() {
+            self.estimate.state = self.updated()?;
+        }
+        self.period += 1;
+        self.estimate.readings = readings.as_read(self.settings.m);
+        self.decided = false;
+        self.empty_heard();
+        match self.mode {
+            Mode::ViewChange => self.raise_view(),
+            Mode::Normal if self.is_coordinator() => self.propose(),
+            Mode::Normal => Ok(Outcome::Done(Sent::default())),
+        }
+    }
+
+    fn tick_updates(&self) -> bool {
+        if planted(Fault::FirstTick) && self.period == 0 {
+            return true;
+        }
+        if planted(Fault::OldEstimate) && !self.decided {
+            return false;
+        }
+        self.period != 0
+    }
+
+    /// "Raises it, unless the box is coordinator in normal mode." Ignored in
+    /// period 0 or in a decided period; "ignoring a give-up comes before 12".
+    fn on_give_up(&mut self) -> Result<Outcome, Refusal> {
+        let normal_coordinator = self.mode == Mode::Normal && self.is_coordinator();
+        if self.period == 0 || self.decided || normal_coordinator {
+            return Ok(Outcome::Ignored);
+        }
+        self.raise_view()
+    }
+
+    /// 8, 9, 10 and 11 "are found before any ground for ignoring".
+    fn on_frame(&mut self, bytes: &[u8]) -> Result<Outcome, Refusal> {
+        let frame = frame::read(self.settings.n, self.settings.m, bytes)?;
+        self.check_sender(&frame)?;
+        self.check_coordinator(&frame)?;
+        check_bases(&frame)?;
+        if self.ignores(&frame) {
+            return Ok(Outcome::Ignored);
+        }
+        match frame.kind {
+            PROPOSE => self.on_propose(&frame),
+            ACK => self.on_ack(&frame),
+            DECIDE => self.on_decide(&frame),
+            _ => self.on_estimate(&frame),
+        }
+    }
+
+    /// "View and estimate are adopted, base view is the view, mode is normal,
+    /// Ack goes back. A repeated one is acknowledged again."
+    fn on_propose(&mut self, frame: &Frame) -> Result<Outcome, Refusal> {
+        self.adopt(frame);
+        self.send(self.ack_frame())
+    }
+
+    /// "At a majority the box decides: Decide to all others, and the command."
+    fn on_ack(&mut self, frame: &Frame) -> Result<Outcome, Refusal> {
+        if self.has_heard(frame.sender) {
+            // Only with the planted fault of the doubled Ack.
+            self.enter_unheard();
+        } else {
+            self.enter(frame.sender);
+        }
+        if !self.majority_heard() {
+            return Ok(Outcome::Done(Sent::default()));
+        }
+        let command = self.decide()?;
+        Ok(Outcome::Done(Sent {
+            frame: Some(self.frame_of_view(DECIDE)),
+            command: Some(command),
+        }))
+    }
+
+    /// "Adopted like Propose, no Ack; the box decides and issues the command."
+    fn on_decide(&mut self, frame: &Frame) -> Result<Outcome, Refusal> {
+        self.adopt(frame);
+        let command = self.decide()?;
+        Ok(Outcome::Done(Sent {
+            frame: None,
+            command: Some(command),
+        }))
+    }
+
+    /// "At a higher view the box first enters it in view-change mode with its
+    /// own estimate heard. At a majority it takes the best estimate whole and
+    /// proposes."
+    fn on_estimate(&mut self, frame: &Frame) -> Result<Outcome, Refusal> {
+        if frame.view > self.view {
+            self.enter_view(frame.view);
+        }
+        self.hear(Heard {
+            from: frame.sender,
+            base_view: frame.base_view,
+            estimate: estimate_of(frame),
+        });
+        if !self.majority_heard() {
+            return Ok(Outcome::Done(Sent::default()));
+        }
+        if let Some(best) = self.best {
+            self.estimate = best.estimate;
+        }
+        self.propose()
+    }
+
+    // Rules that several events share.
+
+    /// "Mode is normal, base period becomes the period and base view the
+    /// view; the coordinator counts itself as having acknowledged; Propose
+    /// goes to all others."
+    fn propose(&mut self) -> Result<Outcome, Refusal> {
+        self.mode = Mode::Normal;
+        self.estimate.base_period = self.period;
+        self.base_view = self.view;
+        self.empty_heard();
+        self.enter(self.own);
+        self.send(self.frame_of_view(PROPOSE))
+    }
+
+    /// "View plus 1. If the box is now coordinator: view-change mode, its own
+    /// estimate is the first heard. Otherwise: normal mode and its Estimate
+    /// goes to the new coordinator." Refused by 12.
+    fn raise_view(&mut self) -> Result<Outcome, Refusal> {
+        self.view = self.view.checked_add(1).ok_or(Refusal::LastView)?;
+        self.empty_heard();
+        if self.is_coordinator() {
+            self.mode = Mode::ViewChange;
+            self.hear_own();
+            return Ok(Outcome::Done(Sent::default()));
+        }
+        self.mode = Mode::Normal;
+        self.send(self.estimate_frame())
+    }
+
+    /// Enters a higher view "in view-change mode with its own estimate heard".
+    fn enter_view(&mut self, view: u32) {
+        self.view = view;
+        self.mode = Mode::ViewChange;
+        let kept = self.heard;
+        self.empty_heard();
+        if planted(Fault::HeardKept) {
+            self.heard = kept;
+        }
+        self.hear_own();
+    }
+
+    /// "View and estimate are adopted, base view is the view, mode is normal"
+    fn adopt(&mut self, frame: &Frame) {
+        let own_readings = self.estimate.readings;
+        self.view = frame.view;
+        self.base_view = frame.view;
+        self.mode = Mode::Normal;
+        self.estimate = estimate_of(frame);
+        if planted(Fault::OwnReadings) {
+            self.estimate.readings = own_readings;
+        }
+        self.empty_heard();
+    }
+
+    /// "A box that decides issues the command of Update(estimate's state,
+    /// estimate's readings)."
+    fn decide(&mut self) -> Result<Command, Refusal> {
+        self.decided = true;
+        if planted(Fault::CommandBefore) {
+            return law::command(&self.settings, &self.estimate.state);
+        }
+        law::command(&self.settings, &self.updated()?)
+    }
+
+    /// Update of the estimate's state and readings.
+    fn updated(&self) -> Result<State, Refusal> {
+        law::update(
+            &self.settings,
+            &self.estimate.state,
+            &self.estimate.readings,
+        )
+    }
+
+    fn is_coordinator(&self) -> bool {
+        coordinator(self.boxes, self.view) == self.own
+    }
+
+    fn send(&self, frame: Frame) -> Result<Outcome, Refusal> {
+        Ok(Outcome::Done(Sent {
+            frame: Some(frame),
+            command: None,
+        }))
+    }
+
+    // The boxes heard.
+
+    /// Empties "the boxes heard and the best estimate". What stands for boxes
+    /// above N stays as it is.
+    fn empty_heard(&mut self) {
+        self.heard[..self.boxes.into()].fill(false);
+        self.best = None;
+    }
+
+    /// Whether a box from 1 to N is among those heard.
+    fn has_heard(&self, number: u8) -> bool {
+        self.heard[usize::from(number) - 1]
+    }
+
+    /// Enters a box from 1 to N.
+    fn enter(&mut self, number: u8) {
+        self.heard[usize::from(number) - 1] = true;
+    }
+
+    /// Makes the count of boxes heard rise by one: the planted fault of the
+    /// doubled Ack.
+    fn enter_unheard(&mut self) {
+        let counted = &mut self.heard[..self.boxes.into()];
+        if let Some(place) = counted.iter_mut().find(|heard| !**heard) {
+            *place = true;
+        }
+    }
+
+    /// Enters the box of an estimate and weighs the estimate.
+    fn hear(&mut self, heard: Heard) {
+        self.enter(heard.from);
+        if self.best.is_none_or(|best| heard.beats(&best)) {
+            self.best = Some(heard);
+        }
+    }
+
+    /// The own estimate is counted and weighed.
+    fn hear_own(&mut self) {
+        self.hear(Heard {
+            from: self.own,
+            base_view: self.base_view,
+            estimate: self.estimate,
+        });
+    }
+
+    /// "boxes above N aren't counted"
+    fn majority_heard(&self) -> bool {
+        let counted = &self.heard[..self.boxes.into()];
+        let count = counted.iter().filter(|heard| **heard).count();
+        count >= majority(self.boxes).into()
+    }
+
+    // Grounds for refusing and for ignoring a frame.
+
+    /// Refusal 9: "sender not 1 to N, or the own number".
+    fn check_sender(&self, frame: &Frame) -> Result<(), Refusal> {
+        if (1..=self.boxes).contains(&frame.sender) && frame.sender != self.own {
+            Ok(())
+        } else {
+            Err(Refusal::Sender)
+        }
+    }
+
+    /// Refusal 10: "Propose or Decide not from its view's coordinator; Ack or
+    /// Estimate at a box that isn't", of the view in the frame.
+    fn check_coordinator(&self, frame: &Frame) -> Result<(), Refusal> {
+        let claimed = match frame.kind {
+            PROPOSE | DECIDE => frame.sender,
+            _ => self.own,
+        };
+        if claimed == coordinator(self.boxes, frame.view) {
+            Ok(())
+        } else {
+            Err(Refusal::Coordinator)
+        }
+    }
+
+    /// "Ignored: frames and give-ups in period 0 or in a decided period; a
+    /// frame of another period; a frame of a lower view; an Ack of a higher
+    /// view or in view-change mode; an Estimate at the own view in normal
+    /// mode; a second Ack or Estimate of one box"
+    fn ignores(&self, frame: &Frame) -> bool {
+        self.period == 0
+            || self.decided
+            || frame.period != self.period
+            || (frame.view < self.view && !planted(Fault::LowerView))
+            || match frame.kind {
+                ACK => self.ignores_ack(frame),
+                ESTIMATE => self.ignores_estimate(frame),
+                _ => false,
+            }
+    }
+
+    fn ignores_ack(&self, frame: &Frame) -> bool {
+        frame.view > self.view
+            || self.mode == Mode::ViewChange
+            || (self.has_heard(frame.sender) && !planted(Fault::DoubledAck))
+    }
+
+    /// An Estimate at a higher view empties the boxes heard first, so it is
+    /// never a second one.
+    fn ignores_estimate(&self, frame: &Frame) -> bool {
+        (frame.view == self.view && self.mode == Mode::Normal)
+            || (frame.view <= self.view && self.has_heard(frame.sender))
+    }
+
+    // The frames a replica sends.
+
+    /// A Propose or Decide: base fields are "the view and the period".
+    fn frame_of_view(&self, kind: u8) -> Frame {
+        Frame {
+            base_view: self.view,
+            base_period: self.period,
+            ..self.whole_frame(kind)
+        }
+    }
+
+    /// An Estimate, with the bases as the replica holds them.
+    fn estimate_frame(&self) -> Frame {
+        self.whole_frame(ESTIMATE)
+    }
+
+    /// An Ack: base fields "both 0", no parts.
+    fn ack_frame(&self) -> Frame {
+        Frame {
+            kind: ACK,
+            sender: self.own,
+            period: self.period,
+            view: self.view,
+            ..Frame::default()
+        }
+    }
+
+    /// Written with marks below m alone and 0 where absent, so that a step
+    /// never refuses its own frame.
+    fn whole_frame(&self, kind: u8) -> Frame {
+        Frame {
+            kind,
+            sender: self.own,
+            period: self.period,
+            view: self.view,
+            base_view: self.base_view,
+            base_period: self.estimate.base_period,
+            state: self.estimate.state,
+            readings: self.estimate.readings.as_read(self.settings.m),
+        }
+    }
+}
+
+impl Step {
+    /// A step that writes nothing.
+    fn silent(answer: Answer) -> Step {
+        Step {
+            answer,
+            frame_length: 0,
+            command_length: 0,
+        }
+    }
+}
+
+impl Areas<'_> {
+    /// Refusal 5: "frame area under 69 bytes or command area under 24".
+    fn check(&self) -> Result<(), Refusal> {
+        if self.frame.len() < frame::FRAME_AREA || self.command.len() < frame::COMMAND_AREA {
+            return Err(Refusal::Areas);
+        }
+        Ok(())
+    }
+}
+
+fn estimate_of(frame: &Frame) -> Estimate {
+    Estimate {
+        state: frame.state,
+        readings: frame.readings,
+        base_period: frame.base_period,
+    }
+}
+
+/// Refusal 11. "Base fields: Ack both 0; Propose and Decide the view and the
+/// period; Estimate a base view below the view and a base period not above
+/// the period."
+fn check_bases(frame: &Frame) -> Result<(), Refusal> {
+    let as_above = match frame.kind {
+        ACK => frame.base_view == 0 && frame.base_period == 0,
+        ESTIMATE => frame.base_view < frame.view && frame.base_period <= frame.period,
+        _ => frame.base_view == frame.view && frame.base_period == frame.period,
+    };
+    if as_above {
+        Ok(())
+    } else {
+        Err(Refusal::Bases)
+    }
+}
+
+#[cfg(test)]
+mod tests;

@@ -1,0 +1,579 @@
+use super::*;
+use crate::frame::{COMMAND_AREA, FRAME_AREA};
+use crate::script::bench_settings;
+
+const FILL: u8 = 0xAA;
+
+/// A step's replica and answer, with the bytes it wrote.
+struct Taken {
+    replica: Replica,
+    answer: Answer,
+    frame: Vec<u8>,
+    command: Vec<u8>,
+}
+
+impl Taken {
+    fn sent(&self) -> Frame {
+        let Settings { n, m, .. } = self.replica.settings;
+        frame::read(n, m, &self.frame).unwrap()
+    }
+}
+
+fn run(event: impl FnOnce(Areas) -> (Replica, Step)) -> Taken {
+    let mut frame = [FILL; FRAME_AREA + 3];
+    let mut command = [FILL; COMMAND_AREA + 3];
+    let (replica, step) = event(Areas {
+        frame: &mut frame,
+        command: &mut command,
+    });
+    let behind = [&frame[step.frame_length..], &command[step.command_length..]].concat();
+    assert!(behind.iter().all(|&byte| byte == FILL));
+    Taken {
+        replica,
+        answer: step.answer,
+        frame: frame[..step.frame_length].to_vec(),
+        command: command[..step.command_length].to_vec(),
+    }
+}
+
+fn tick(replica: Replica, y: i32) -> Taken {
+    let readings = Readings {
+        marks: 1,
+        values: [y, 0, 0, 0],
+    };
+    run(|areas| replica.tick(&readings, areas))
+}
+
+fn give_up(replica: Replica) -> Taken {
+    run(|areas| replica.give_up(areas))
+}
+
+fn arrive(replica: Replica, bytes: &[u8]) -> Taken {
+    run(|areas| replica.arrive(bytes, areas))
+}
+
+fn arrive_frame(replica: Replica, frame: &Frame) -> Taken {
+    let mut area = [0; FRAME_AREA];
+    let Settings { n, m, .. } = replica.settings;
+    let length = frame::write(n, m, frame, &mut area).unwrap();
+    arrive(replica, &area[..length])
+}
+
+fn fresh(boxes: u8, own: u8) -> Replica {
+    Replica::new(boxes, own, bench_settings()).unwrap()
+}
+
+/// A replica in period 1.
+fn ticked(boxes: u8, own: u8) -> Replica {
+    tick(fresh(boxes, own), 100 + i32::from(own)).replica
+}
+
+fn ack(sender: u8, period: u32, view: u32) -> Frame {
+    Frame {
+        kind: ACK,
+        sender,
+        period,
+        view,
+        ..Frame::default()
+    }
+}
+
+fn estimate(sender: u8, period: u32, view: u32, bases: (u32, u32)) -> Frame {
+    Frame {
+        kind: ESTIMATE,
+        sender,
+        period,
+        view,
+        base_view: bases.0,
+        base_period: bases.1,
+        state: [i32::from(sender) * 10, 0, 0, 0, 0, 0],
+        readings: Readings::default(),
+    }
+}
+
+fn of_view(kind: u8, sender: u8, period: u32, view: u32) -> Frame {
+    Frame {
+        kind,
+        ..estimate(sender, period, view, (view, period))
+    }
+}
+
+fn assert_unchanged(before: Replica, taken: &Taken, answer: Answer) {
+    assert_eq!(taken.answer, answer);
+    assert_eq!(taken.replica, before);
+    assert!(taken.frame.is_empty() && taken.command.is_empty());
+}
+
+fn assert_ignored(before: Replica, frame: &Frame) {
+    assert_unchanged(before, &arrive_frame(before, frame), Answer::Ignored);
+}
+
+fn assert_refused(before: Replica, frame: &Frame, refusal: Refusal) {
+    let taken = arrive_frame(before, frame);
+    assert_unchanged(before, &taken, Answer::Refused(refusal));
+}
+
+#[test]
+fn p6_majority() {
+    assert_eq!(majority(4), 3);
+    assert_eq!((majority(3), majority(9)), (2, 5));
+}
+
+#[test]
+fn p7_coordinator() {
+    assert_eq!(coordinator(3, 2), 3);
+    assert_eq!(coordinator(3, 3), 1);
+}
+
+#[test]
+fn p9_p10_best() {
+    let heard = |from, base_view, base_period| Heard {
+        from,
+        base_view,
+        estimate: Estimate {
+            state: State::default(),
+            readings: Readings::default(),
+            base_period,
+        },
+    };
+    assert!(heard(3, 5, 3).beats(&heard(2, 4, 4)));
+    assert!(!heard(2, 4, 4).beats(&heard(3, 5, 3)));
+    assert!(heard(3, 5, 4).beats(&heard(2, 5, 3)));
+    assert!(heard(2, 5, 3).beats(&heard(3, 5, 3)));
+    assert!(!heard(3, 5, 3).beats(&heard(2, 5, 3)));
+}
+
+#[test]
+fn n_2_and_10_are_refused() {
+    let new = |boxes, own| Replica::new(boxes, own, bench_settings()).err();
+    assert_eq!(new(2, 1), Some(Refusal::Group));
+    assert_eq!(new(10, 1), Some(Refusal::Group));
+    assert_eq!(new(3, 0), Some(Refusal::Group));
+    assert_eq!(new(3, 4), Some(Refusal::Group));
+    assert_eq!(new(3, 3), None);
+    assert_eq!(new(9, 9), None);
+}
+
+#[test]
+fn first_tick_takes_the_readings_without_an_update() {
+    let mut settings = bench_settings();
+    settings.a[0][0] = 32_768;
+    settings.start = [7; 6];
+    let taken = tick(Replica::new(3, 2, settings).unwrap(), 100);
+    assert_eq!(taken.answer, Answer::Ok);
+    assert_eq!(taken.replica.estimate.state, [7, 0, 0, 0, 0, 0]);
+    assert_eq!(taken.replica.estimate.readings.values, [100, 0, 0, 0]);
+    assert_eq!(taken.replica.period, 1);
+    // 7/2 and half of the error 100 − 7.
+    let second = tick(taken.replica, 0).replica;
+    assert_eq!(second.estimate.state[0], 50);
+}
+
+#[test]
+fn one_period_from_propose_to_decide() {
+    let proposed = tick(fresh(4, 1), 100);
+    assert_eq!(proposed.sent().kind, PROPOSE);
+    assert_eq!(proposed.replica.estimate.base_period, 1);
+    let follower = arrive(ticked(4, 2), &proposed.frame);
+    assert_eq!(follower.sent(), ack(2, 1, 0));
+    assert_eq!(follower.replica.estimate, proposed.replica.estimate);
+    let again = arrive(follower.replica, &proposed.frame);
+    assert_eq!(again.sent(), ack(2, 1, 0));
+
+    let first = arrive(proposed.replica, &follower.frame);
+    assert_eq!(first.answer, Answer::Ok);
+    assert!(first.frame.is_empty() && !first.replica.decided);
+    assert_ignored(first.replica, &ack(2, 1, 0));
+    let decided = arrive_frame(first.replica, &ack(3, 1, 0));
+    assert_eq!(decided.sent().kind, DECIDE);
+    assert_eq!(decided.command, [5, 1, 0, 0, 1, 0, 0, 0, 50, 0, 0, 0]);
+    assert!(decided.replica.decided);
+
+    let told = arrive(ticked(4, 4), &decided.frame);
+    assert!(told.frame.is_empty() && told.replica.decided);
+    assert_eq!(told.command, decided.command);
+    assert_ignored(told.replica, &of_view(PROPOSE, 1, 1, 0));
+    assert_unchanged(told.replica, &give_up(told.replica), Answer::Ignored);
+}
+
+#[test]
+fn nothing_but_a_tick_happens_in_period_0() {
+    let replica = fresh(3, 2);
+    assert_unchanged(replica, &give_up(replica), Answer::Ignored);
+    assert_ignored(replica, &of_view(PROPOSE, 1, 0, 0));
+    assert_ignored(replica, &of_view(DECIDE, 1, 0, 0));
+    assert_ignored(replica, &estimate(1, 0, 1, (0, 0)));
+}
+
+#[test]
+fn giving_up_sends_the_estimate_or_waits_for_others() {
+    let third = give_up(ticked(3, 3));
+    let sent = third.sent();
+    assert_eq!((sent.kind, sent.view, sent.base_view), (ESTIMATE, 1, 0));
+    assert_eq!(third.replica.mode, Mode::Normal);
+
+    let second = give_up(ticked(3, 2));
+    assert!(second.frame.is_empty());
+    assert_eq!(second.replica.mode, Mode::ViewChange);
+    assert_eq!(second.replica.heard[..3], [false, true, false]);
+    assert_eq!(second.replica.best.unwrap().from, 2);
+
+    let coordinator = ticked(3, 1);
+    assert_unchanged(coordinator, &give_up(coordinator), Answer::Ignored);
+
+    // A tick in view-change mode raises the view again.
+    let next = tick(second.replica, 0);
+    assert_eq!((next.replica.view, next.replica.mode), (2, Mode::Normal));
+    assert_eq!((next.sent().kind, next.sent().view), (ESTIMATE, 2));
+}
+
+#[test]
+fn a_majority_of_estimates_makes_the_best_the_proposal() {
+    let waiting = give_up(ticked(4, 2)).replica;
+    let one = arrive_frame(waiting, &estimate(3, 1, 1, (0, 1)));
+    assert_eq!(one.answer, Answer::Ok);
+    assert!(one.frame.is_empty());
+    assert_ignored(one.replica, &estimate(3, 1, 1, (0, 0)));
+    let two = arrive_frame(one.replica, &estimate(4, 1, 1, (0, 0)));
+    let sent = two.sent();
+    assert_eq!((sent.kind, sent.state[0]), (PROPOSE, 30));
+    assert_eq!((sent.base_view, sent.base_period), (1, 1));
+    assert_eq!(two.replica.mode, Mode::Normal);
+    assert_eq!(two.replica.heard[..4], [false, true, false, false]);
+    assert_eq!(two.replica.best, None);
+    assert_ignored(two.replica, &estimate(1, 1, 1, (0, 0)));
+}
+
+#[test]
+fn the_own_estimate_is_weighed() {
+    let waiting = give_up(ticked(3, 2)).replica;
+    let taken = arrive_frame(waiting, &estimate(3, 1, 1, (0, 0)));
+    // Equal bases: box 2's own estimate, not box 3's 30.
+    assert_eq!(taken.sent().state[0], 0);
+    assert_eq!(taken.sent().readings.values[0], 102);
+}
+
+#[test]
+fn an_estimate_at_a_higher_view_is_never_a_second_one() {
+    let proposed = tick(fresh(4, 1), 100).replica;
+    let heard = arrive_frame(proposed, &ack(2, 1, 0)).replica;
+    let entered = arrive_frame(heard, &estimate(2, 1, 4, (0, 0)));
+    assert_eq!(entered.answer, Answer::Ok);
+    assert!(entered.frame.is_empty());
+    assert_eq!(entered.replica.view, 4);
+    assert_eq!(entered.replica.mode, Mode::ViewChange);
+    assert_eq!(entered.replica.heard[..4], [true, true, false, false]);
+    assert_ignored(entered.replica, &ack(3, 1, 4));
+}
+
+#[test]
+fn frames_of_other_periods_and_views_are_ignored() {
+    let mut replica = ticked(3, 2);
+    replica.view = 4;
+    assert_ignored(replica, &of_view(PROPOSE, 1, 2, 6));
+    assert_ignored(replica, &of_view(DECIDE, 1, 0, 6));
+    assert_ignored(replica, &of_view(PROPOSE, 1, 1, 3));
+    assert_ignored(replica, &of_view(DECIDE, 1, 1, 3));
+    assert_ignored(replica, &estimate(3, 1, 1, (0, 0)));
+    assert_ignored(replica, &estimate(3, 1, 4, (0, 0)));
+    assert_ignored(replica, &ack(3, 1, 1));
+    assert_ignored(replica, &ack(3, 1, 7));
+}
+
+#[test]
+fn a_higher_view_is_adopted_with_its_frame() {
+    let taken = arrive_frame(ticked(3, 2), &of_view(PROPOSE, 3, 1, 5));
+    assert_eq!(taken.sent(), ack(2, 1, 5));
+    assert_eq!((taken.replica.view, taken.replica.base_view), (5, 5));
+    assert_eq!(taken.replica.estimate.state[0], 30);
+}
+
+#[test]
+fn frame_refusals_come_in_order_and_before_ignoring() {
+    let replica = fresh(3, 2);
+    let taken = arrive(replica, &[0; 20]);
+    assert_unchanged(replica, &taken, Answer::Refused(Refusal::Form));
+    for sender in [0, 2, 4, 255] {
+        let frame = of_view(PROPOSE, sender, 9, 0);
+        assert_refused(replica, &frame, Refusal::Sender);
+    }
+    let bad_bases = Frame {
+        base_view: 7,
+        ..of_view(PROPOSE, 3, 9, 0)
+    };
+    assert_refused(replica, &bad_bases, Refusal::Coordinator);
+    assert_refused(replica, &ack(1, 9, 0), Refusal::Coordinator);
+    let frame = estimate(1, 9, 2, (0, 0));
+    assert_refused(replica, &frame, Refusal::Coordinator);
+    assert_refused(fresh(3, 1), &estimate(2, 1, 0, (0, 0)), Refusal::Bases);
+}
+
+#[test]
+fn base_fields_are_refused_by_11() {
+    let replica = fresh(3, 2);
+    let bad = [
+        Frame {
+            base_view: 1,
+            ..ack(1, 1, 1)
+        },
+        Frame {
+            base_period: 1,
+            ..ack(1, 1, 1)
+        },
+        Frame {
+            base_view: 1,
+            ..of_view(PROPOSE, 1, 1, 0)
+        },
+        Frame {
+            base_period: 0,
+            ..of_view(DECIDE, 1, 1, 0)
+        },
+        estimate(1, 1, 1, (1, 1)),
+        estimate(1, 1, 1, (0, 2)),
+    ];
+    for frame in bad {
+        assert_refused(replica, &frame, Refusal::Bases);
+    }
+}
+
+#[test]
+fn settings_handed_in_come_before_the_areas_and_these_before_the_event() {
+    let step = |replica: Replica, lengths: (usize, usize)| {
+        let (mut frame, mut command) = (vec![0; lengths.0], vec![0; lengths.1]);
+        let areas = Areas {
+            frame: &mut frame,
+            command: &mut command,
+        };
+        let readings = Readings {
+            marks: 2,
+            ..Readings::default()
+        };
+        replica.tick(&readings, areas).1.answer
+    };
+    let mut replica = fresh(3, 2);
+    assert_eq!(step(replica, (69, 24)), Answer::Refused(Refusal::Marks));
+    replica.period = u32::MAX;
+    assert_eq!(
+        step(replica, (69, 24)),
+        Answer::Refused(Refusal::LastPeriod)
+    );
+    assert_eq!(step(replica, (68, 24)), Answer::Refused(Refusal::Areas));
+    assert_eq!(step(replica, (69, 23)), Answer::Refused(Refusal::Areas));
+    replica.settings.lower[0] = 1;
+    replica.settings.upper[0] = 0;
+    assert_eq!(step(replica, (0, 0)), Answer::Refused(Refusal::Limits));
+    replica.settings.a[0][0] = i32::MAX;
+    assert_eq!(step(replica, (0, 0)), Answer::Refused(Refusal::Coefficient));
+    replica.settings.n = 255;
+    assert_eq!(step(replica, (0, 0)), Answer::Refused(Refusal::Sizes));
+    for (boxes, own) in [(0, 0), (2, 1), (255, 200), (3, 0), (3, 4)] {
+        (replica.boxes, replica.own) = (boxes, own);
+        assert_eq!(step(replica, (0, 0)), Answer::Refused(Refusal::Group));
+    }
+}
+
+#[test]
+fn the_last_view_is_not_raised() {
+    let mut replica = ticked(3, 2);
+    // 4294967295 mod 3 is 0: box 1 coordinates.
+    replica.view = u32::MAX;
+    let refused = Answer::Refused(Refusal::LastView);
+    assert_unchanged(replica, &give_up(replica), refused);
+    assert_eq!(tick(replica, 1).answer, Answer::Ok);
+    replica.mode = Mode::ViewChange;
+    assert_unchanged(replica, &tick(replica, 1), refused);
+    let mut coordinator = replica;
+    coordinator.own = 1;
+    assert_unchanged(coordinator, &give_up(coordinator), refused);
+    coordinator.mode = Mode::Normal;
+    assert_unchanged(coordinator, &give_up(coordinator), Answer::Ignored);
+}
+
+#[test]
+fn boxes_above_n_stay_and_are_not_counted() {
+    let mut replica = fresh(4, 1);
+    replica.heard[4..].fill(true);
+    let proposed = tick(replica, 1).replica;
+    assert!(proposed.heard[4..].iter().all(|heard| *heard));
+    let taken = arrive_frame(proposed, &ack(2, 1, 0));
+    assert!(taken.frame.is_empty() && !taken.replica.decided);
+}
+
+#[test]
+fn more_boxes_heard_than_a_majority_go_on_too() {
+    let mut replica = tick(fresh(5, 1), 1).replica;
+    replica.heard[..4].fill(true);
+    assert_ignored(replica, &ack(2, 1, 0));
+    let taken = arrive_frame(replica, &ack(5, 1, 0));
+    assert!(taken.replica.decided);
+}
+
+#[test]
+fn a_best_estimate_handed_in_takes_part() {
+    let mut replica = give_up(ticked(3, 2)).replica;
+    let mut best = replica.best.unwrap();
+    best.base_view = 77;
+    best.estimate.state[0] = 1234;
+    replica.best = Some(best);
+    let taken = arrive_frame(replica, &estimate(3, 1, 1, (0, 1)));
+    assert_eq!(taken.sent().state[0], 1234);
+}
+
+#[test]
+fn bases_sent_are_those_of_the_rules() {
+    let mut replica = tick(fresh(3, 1), 1).replica;
+    replica.base_view = 9;
+    replica.estimate.base_period = 9;
+    let decided = arrive_frame(replica, &ack(2, 1, 0)).sent();
+    assert_eq!((decided.base_view, decided.base_period), (0, 1));
+    let mut follower = ticked(3, 3);
+    follower.base_view = 9;
+    follower.estimate.base_period = 9;
+    let sent = give_up(follower).sent();
+    assert_eq!((sent.base_view, sent.base_period), (9, 9));
+}
+
+#[test]
+fn odd_readings_handed_in_are_sent_as_the_law_reads_them() {
+    let mut replica = ticked(3, 3);
+    replica.estimate.readings = Readings {
+        marks: 0b1111_1110,
+        values: [5; 4],
+    };
+    let sent = give_up(replica).sent();
+    assert_eq!(sent.readings, Readings::default());
+}
+
+/// A small generator of numbers for the histories below.
+struct Random(u64);
+
+impl Random {
+    fn below(&mut self, bound: usize) -> usize {
+        self.0 ^= self.0 << 13;
+        self.0 ^= self.0 >> 7;
+        self.0 ^= self.0 << 17;
+        (self.0 >> 20) as usize % bound
+    }
+}
+
+/// The first box of the least period.
+fn behind(replicas: &[Replica]) -> usize {
+    let places = 0..replicas.len();
+    places.min_by_key(|&place| replicas[place].period).unwrap()
+}
+
+/// Delivers any frame sent, mostly one of the last, to any box; another one
+/// if that comes to nothing, a few times over.
+fn deliver(replicas: &[Replica], sent: &[Vec<u8>], random: &mut Random) -> (usize, Taken) {
+    let recent = sent.len().saturating_sub(6);
+    let mut tries = 0;
+    loop {
+        let from = if random.below(6) == 0 { 0 } else { recent };
+        let bytes = &sent[from + random.below(sent.len() - from)];
+        let place = random.below(replicas.len());
+        let taken = arrive(replicas[place], bytes);
+        tries += 1;
+        if taken.answer == Answer::Ok || tries == 5 {
+            return (place, taken);
+        }
+    }
+}
+
+/// One history of demand 3: its rows and its decided states, by period.
+#[derive(Default)]
+struct History {
+    rows: Vec<Vec<Readings>>,
+    decided: Vec<Vec<(State, Vec<u8>)>>,
+}
+
+impl History {
+    fn random(boxes: u8, settings: Settings, random: &mut Random) -> History {
+        let mut history = History::default();
+        let mut replicas: Vec<Replica> = (1..=boxes)
+            .map(|own| Replica::new(boxes, own, settings).unwrap())
+            .collect();
+        let mut sent: Vec<Vec<u8>> = Vec::new();
+        for _ in 0..150 {
+            let any = random.below(replicas.len());
+            let (place, taken) = match random.below(20) {
+                0 => (any, history.tick(replicas[any], random)),
+                // Mostly a box that is behind the others, so that periods meet.
+                1 | 2 => {
+                    let place = behind(&replicas);
+                    (place, history.tick(replicas[place], random))
+                }
+                3..=5 => (any, give_up(replicas[any])),
+                _ if sent.is_empty() => continue,
+                _ => deliver(&replicas, &sent, random),
+            };
+            if !taken.command.is_empty() {
+                history.note_decision(&taken);
+            }
+            if !taken.frame.is_empty() {
+                sent.push(taken.frame);
+            }
+            replicas[place] = taken.replica;
+        }
+        history
+    }
+
+    fn tick(&mut self, replica: Replica, random: &mut Random) -> Taken {
+        let taken = tick(replica, random.below(1000) as i32 - 500);
+        let period = taken.replica.period as usize;
+        self.rows
+            .resize_with(self.rows.len().max(period + 1), Vec::new);
+        self.rows[period].push(taken.replica.estimate.readings);
+        taken
+    }
+
+    fn note_decision(&mut self, taken: &Taken) {
+        let period = taken.replica.period as usize;
+        self.decided
+            .resize_with(self.decided.len().max(period + 1), Vec::new);
+        let state = taken.replica.updated().unwrap();
+        self.decided[period].push((state, taken.command.clone()));
+    }
+
+    /// Every state that the single controller can hold, step by step; a
+    /// decided period leaves it the decided state alone.
+    fn check(&self, settings: &Settings) -> usize {
+        let mut start = State::default();
+        start[0] = settings.start[0];
+        let mut states = vec![start];
+        for period in 1..self.decided.len() {
+            let rows = &self.rows[period];
+            states = states
+                .iter()
+                .flat_map(|x| {
+                    rows.iter()
+                        .map(|row| law::update(settings, x, row).unwrap())
+                })
+                .collect();
+            states.sort_unstable();
+            states.dedup();
+            for (state, command) in &self.decided[period] {
+                states.retain(|reached| reached == state);
+                assert!(!states.is_empty(), "no controller decides period {period}");
+                let value = law::command(settings, state).unwrap()[0].to_le_bytes();
+                let head = [5, 1, 0, 0, period as u8, 0, 0, 0];
+                assert_eq!(*command, [head.as_slice(), value.as_slice()].concat());
+            }
+        }
+        self.decided.iter().map(Vec::len).sum()
+    }
+}
+
+#[test]
+fn random_histories_satisfy_demand_3() {
+    let mut random = Random(0x9E37_79B9_7F4A_7C15);
+    let mut settings = bench_settings();
+    settings.a[0][0] = 60_000;
+    settings.start[0] = 700;
+    let mut decisions = 0;
+    for round in 0..3000 {
+        let boxes = 3 + (round % 3) as u8;
+        let history = History::random(boxes, settings, &mut random);
+        decisions += history.check(&settings);
+    }
+    assert!(decisions > 3000, "only {decisions} decisions");
+}

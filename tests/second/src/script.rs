@@ -1,0 +1,528 @@
+//! Document 01, "The bench": scripts of events for a group of boxes, read
+//! from lines and answered line by line. `rig` is the same for any group.
+
+use std::io::{self, BufRead, Write};
+use std::ops::RangeInclusive;
+
+use crate::frame::{command_values, COMMAND_AREA, FRAME_AREA};
+use crate::law::{self, Readings, Settings};
+use crate::refusal::Refusal;
+use crate::replica::{check_group, Answer, Areas, Replica, Step};
+
+/// "It reads at most 500 lines"
+const MOST_LINES: usize = 500;
+
+const HEADER: &str = "no who answer k v vb kb x frame command";
+
+const BAD: &str = "bad";
+
+const BENCH_BOXES: u8 = 3;
+
+/// "N = 3; n = m = p = 1; A, C, K hold 65536, L 32768; widest limits; start 0"
+pub fn bench_settings() -> Settings {
+    let mut settings = Settings {
+        n: 1,
+        m: 1,
+        p: 1,
+        ..Settings::default()
+    };
+    settings.a[0][0] = 65_536;
+    settings.c[0][0] = 65_536;
+    settings.k[0][0] = 65_536;
+    settings.l[0][0] = 32_768;
+    settings.lower[0] = i32::MIN;
+    settings.upper[0] = i32::MAX;
+    settings
+}
+
+/// The program `bench`.
+pub fn bench(mut input: impl BufRead, mut output: impl Write) -> io::Result<()> {
+    match Group::new(BENCH_BOXES, bench_settings()) {
+        Ok(group) => group.run(&mut input, &mut output),
+        Err(refusal) => writeln!(output, "{refusal}"),
+    }
+}
+
+/// The program `rig`: the first line names the group, the rest is as the
+/// bench's.
+pub fn rig(mut input: impl BufRead, mut output: impl Write) -> io::Result<()> {
+    let first = next_line(&mut input)?.unwrap_or_default();
+    match rig_group(&first) {
+        Ok(group) => group.run(&mut input, &mut output),
+        Err(Unfit::Bad) => writeln!(output, "{BAD}"),
+        Err(Unfit::Refused(refusal)) => writeln!(output, "{refusal}"),
+    }
+}
+
+/// Why a first line of the rig makes no group.
+#[derive(Debug, PartialEq, Eq)]
+enum Unfit {
+    Bad,
+    Refused(Refusal),
+}
+
+impl From<Refusal> for Unfit {
+    fn from(refusal: Refusal) -> Unfit {
+        Unfit::Refused(refusal)
+    }
+}
+
+/// Sizes first, by form, then by refusals 1 and 2; only then the rest of the
+/// line; then refusals 3 and 4.
+fn rig_group(line: &[u8]) -> Result<Group, Unfit> {
+    let mut words = words(line);
+    let (boxes, n, m, p) = rig_sizes(&mut words).ok_or(Unfit::Bad)?;
+    check_group(boxes, 1)?;
+    law::check_sizes(n, m, p)?;
+    let settings = rig_settings(n, m, p, &mut words).ok_or(Unfit::Bad)?;
+    Ok(Group::new(boxes, settings)?)
+}
+
+/// `rig N n m p`
+fn rig_sizes<'a>(words: &mut impl Iterator<Item = &'a [u8]>) -> Option<(u8, u8, u8, u8)> {
+    if words.next()? != b"rig" {
+        return None;
+    }
+    let mut size = || u8::try_from(number(words.next()?)?).ok();
+    Some((size()?, size()?, size()?, size()?))
+}
+
+/// A, L, C, K, the lower and the upper limits and the start, and no more.
+fn rig_settings<'a>(
+    n: u8,
+    m: u8,
+    p: u8,
+    words: &mut impl Iterator<Item = &'a [u8]>,
+) -> Option<Settings> {
+    let mut settings = Settings {
+        n,
+        m,
+        p,
+        ..Settings::default()
+    };
+    let (n, m, p) = (usize::from(n), usize::from(m), usize::from(p));
+    fill_table(&mut settings.a, n, n, words)?;
+    fill_table(&mut settings.l, n, m, words)?;
+    fill_table(&mut settings.c, m, n, words)?;
+    fill_table(&mut settings.k, p, n, words)?;
+    fill(&mut settings.lower[..p], words)?;
+    fill(&mut settings.upper[..p], words)?;
+    fill(&mut settings.start[..n], words)?;
+    words.next().is_none().then_some(settings)
+}
+
+fn fill_table<'a, const WIDTH: usize>(
+    table: &mut [[i32; WIDTH]],
+    rows: usize,
+    columns: usize,
+    words: &mut impl Iterator<Item = &'a [u8]>,
+) -> Option<()> {
+    table[..rows]
+        .iter_mut()
+        .try_for_each(|row| fill(&mut row[..columns], words))
+}
+
+fn fill<'a>(places: &mut [i32], words: &mut impl Iterator<Item = &'a [u8]>) -> Option<()> {
+    for place in places {
+        *place = i32::try_from(number(words.next()?)?).ok()?;
+    }
+    Some(())
+}
+
+/// The words of a line, between "single spaces"; two spaces have an empty
+/// word between them, which is no number.
+fn words(line: &[u8]) -> impl Iterator<Item = &[u8]> {
+    line.split(|&byte| byte == b' ')
+}
+
+/// "Decimal without needless zeros or a plus sign, zero without a minus"
+fn number(word: &[u8]) -> Option<i64> {
+    let digits = word.strip_prefix(b"-").unwrap_or(word);
+    let plain = digits.iter().all(u8::is_ascii_digit);
+    let needless_zero_or_sign = digits.first() == Some(&b'0') && word.len() > 1;
+    if !plain || needless_zero_or_sign {
+        return None;
+    }
+    std::str::from_utf8(word).ok()?.parse().ok()
+}
+
+fn number_in(word: &[u8], range: RangeInclusive<usize>) -> Option<usize> {
+    let number = usize::try_from(number(word)?).ok()?;
+    range.contains(&number).then_some(number)
+}
+
+/// The next line without its line feed; "a last line may lack its line feed".
+fn next_line(input: &mut impl BufRead) -> io::Result<Option<Vec<u8>>> {
+    let mut line = Vec::new();
+    if input.read_until(b'\n', &mut line)? == 0 {
+        return Ok(None);
+    }
+    if line.last() == Some(&b'\n') {
+        line.pop();
+    }
+    Ok(Some(line))
+}
+
+/// An event at a box; boxes are counted from 0 here.
+struct Event {
+    place: usize,
+    what: What,
+}
+
+enum What {
+    Tick(Readings),
+    GiveUp,
+    Deliver(Vec<u8>),
+}
+
+/// The boxes, and the frame that each line up to now sent.
+#[derive(Debug, PartialEq, Eq)]
+struct Group {
+    replicas: Vec<Replica>,
+    sent: Vec<Option<Vec<u8>>>,
+}
+
+impl Group {
+    /// "fresh replicas whose settings differ in the own number alone"
+    fn new(boxes: u8, settings: Settings) -> Result<Group, Refusal> {
+        check_group(boxes, 1)?;
+        let replicas = (1..=boxes).map(|own| Replica::new(boxes, own, settings));
+        Ok(Group {
+            replicas: replicas.collect::<Result<_, _>>()?,
+            sent: Vec::new(),
+        })
+    }
+
+    /// The header, then one line for each line read.
+    fn run(mut self, input: &mut impl BufRead, output: &mut impl Write) -> io::Result<()> {
+        writeln!(output, "{HEADER}")?;
+        while self.sent.len() < MOST_LINES {
+            let Some(line) = next_line(input)? else { break };
+            writeln!(output, "{}", self.answer(&line))?;
+        }
+        Ok(())
+    }
+
+    /// Runs one line and gives what is printed for it; "other lines and
+    /// unsent frames print the line number, a space and `bad`".
+    fn answer(&mut self, line: &[u8]) -> String {
+        let line_number = self.sent.len() + 1;
+        let Some(event) = self.parse(line) else {
+            self.sent.push(None);
+            return format!("{line_number} {BAD}");
+        };
+        let mut frame = [0; FRAME_AREA];
+        let mut command = [0; COMMAND_AREA];
+        let areas = Areas {
+            frame: &mut frame,
+            command: &mut command,
+        };
+        let step = self.take(&event, areas);
+        let frame = &frame[..step.frame_length];
+        let command = &command[..step.command_length];
+        self.sent.push((!frame.is_empty()).then(|| frame.to_vec()));
+        self.row(line_number, event.place, step.answer, command)
+    }
+
+    /// Hands the event to its box and keeps the replica that comes back.
+    fn take(&mut self, event: &Event, areas: Areas) -> Step {
+        let replica = self.replicas[event.place];
+        let (replica, step) = match &event.what {
+            What::Tick(readings) => replica.tick(readings, areas),
+            What::GiveUp => replica.give_up(areas),
+            What::Deliver(bytes) => replica.arrive(bytes, areas),
+        };
+        self.replicas[event.place] = replica;
+        step
+    }
+
+    /// "Fields printed: line, box, answer, period, view, base view, base
+    /// period, state, line number if a frame was sent, command; `-` stands
+    /// where there is no frame or command."
+    fn row(&self, line_number: usize, place: usize, answer: Answer, command: &[u8]) -> String {
+        let replica = &self.replicas[place];
+        let answer = match answer {
+            Answer::Ok => "ok".to_string(),
+            Answer::Ignored => "ignored".to_string(),
+            Answer::Refused(refusal) => refusal.to_string(),
+        };
+        let state = &replica.estimate.state[..replica.settings.n.into()];
+        let frame = match self.sent.last() {
+            Some(Some(_)) => line_number.to_string(),
+            _ => "-".to_string(),
+        };
+        let command = match command {
+            [] => "-".to_string(),
+            bytes => commas(&command_values(bytes)),
+        };
+        format!(
+            "{line_number} {} {answer} {} {} {} {} {} {frame} {command}",
+            replica.own,
+            replica.period,
+            replica.view,
+            replica.base_view,
+            replica.estimate.base_period,
+            commas(state),
+        )
+    }
+
+    /// `T r y1 .. ym`, `G r` or `D r f`; none for any other line.
+    fn parse(&self, line: &[u8]) -> Option<Event> {
+        let mut words = words(line);
+        let letter = words.next()?;
+        let place = number_in(words.next()?, 1..=self.replicas.len())? - 1;
+        let what = match letter {
+            b"T" => What::Tick(self.parse_readings(&mut words)?),
+            b"G" => What::GiveUp,
+            b"D" => What::Deliver(self.sent_frame(words.next()?)?),
+            _ => return None,
+        };
+        words.next().is_none().then_some(Event { place, what })
+    }
+
+    /// One word for each reading, "`-` for absent".
+    fn parse_readings<'a>(&self, words: &mut impl Iterator<Item = &'a [u8]>) -> Option<Readings> {
+        let m = self.replicas.first()?.settings.m;
+        let mut readings = Readings::default();
+        for (j, value) in readings.values[..m.into()].iter_mut().enumerate() {
+            let word = words.next()?;
+            if word != b"-" {
+                *value = i32::try_from(number(word)?).ok()?;
+                readings.marks |= 1 << j;
+            }
+        }
+        Some(readings)
+    }
+
+    /// The frame that an earlier line sent.
+    fn sent_frame(&self, word: &[u8]) -> Option<Vec<u8>> {
+        let line_number = number_in(word, 1..=self.sent.len())?;
+        self.sent[line_number - 1].clone()
+    }
+}
+
+fn commas(values: &[i32]) -> String {
+    let words: Vec<String> = values.iter().map(i32::to_string).collect();
+    words.join(",")
+}
+
+#[cfg(test)]
+mod tests {
+    use super::*;
+
+    const SMALL_RIG: &str = "rig 3 1 1 1 65536 32768 65536 65536 -9 9 7";
+
+    fn run_bench(input: &[u8]) -> String {
+        let mut output = Vec::new();
+        bench(input, &mut output).unwrap();
+        String::from_utf8(output).unwrap()
+    }
+
+    fn run_rig(input: &[u8]) -> String {
+        let mut output = Vec::new();
+        rig(input, &mut output).unwrap();
+        String::from_utf8(output).unwrap()
+    }
+
+    fn with_header(lines: &str) -> String {
+        format!("{HEADER}\n{lines}")
+    }
+
+    #[test]
+    fn bench_example() {
+        let input = "T 1 100\nT 2 102\nD 2 1\nD 1 3\nD 2 4\nT 2 -";
+        let expected = with_header(
+            "1 1 ok 1 0 0 1 0 1 -\n\
+             2 2 ok 1 0 0 0 0 - -\n\
+             3 2 ok 1 0 0 1 0 3 -\n\
+             4 1 ok 1 0 0 1 0 4 50\n\
+             5 2 ok 1 0 0 1 0 - 50\n\
+             6 2 ok 2 0 0 1 50 - -\n",
+        );
+        assert_eq!(run_bench(input.as_bytes()), expected);
+        assert_eq!(run_bench(format!("{input}\n").as_bytes()), expected);
+    }
+
+    #[test]
+    fn numbers_have_one_form() {
+        let good = [("0", 0), ("7", 7), ("-7", -7), ("10", 10)];
+        for (word, value) in good {
+            assert_eq!(number(word.as_bytes()), Some(value));
+        }
+        let bad = [
+            "", "-", "+1", "-0", "00", "01", "-01", "1 ", "--1", "1-", "1e2",
+        ];
+        for word in bad {
+            assert_eq!(number(word.as_bytes()), None, "{word}");
+        }
+        assert_eq!(number(b"99999999999999999999"), None);
+        assert_eq!(number("١".as_bytes()), None);
+    }
+
+    #[test]
+    fn lines_of_other_forms_are_bad() {
+        let lines = [
+            "",
+            " ",
+            "T",
+            "T 1",
+            "T 1 ",
+            "T 0 1",
+            "T 4 1",
+            "T 1 1 ",
+            " T 1 1",
+            "T  1 1",
+            "T 1  1",
+            "T 1 1 1",
+            "t 1 1",
+            "T 01 1",
+            "T 1 01",
+            "T 1 -0",
+            "T 1 +1",
+            "T 1 2147483648",
+            "T 1 -2147483649",
+            "T 1 1\r",
+            "T 1 --",
+            "G",
+            "G 1 1",
+            "G 1 ",
+            "G 4",
+            "G -1",
+            "G 1\r",
+            "D 1",
+            "D 1 ",
+            "D 1 0",
+            "D 1 -1",
+            "D 1 1 1",
+            "D 1 -",
+            "X 1 1",
+            "T\t1\t1",
+            "\0",
+        ];
+        for line in lines {
+            let expected = with_header("1 bad\n");
+            assert_eq!(
+                run_bench(format!("{line}\n").as_bytes()),
+                expected,
+                "{line:?}"
+            );
+        }
+        assert_eq!(run_bench(b"\xFF\xFE"), with_header("1 bad\n"));
+        let widest = run_bench(b"T 2 2147483647\nT 3 -2147483648\n");
+        let expected = with_header("1 2 ok 1 0 0 0 0 - -\n2 3 ok 1 0 0 0 0 - -\n");
+        assert_eq!(widest, expected);
+    }
+
+    #[test]
+    fn unsent_frames_are_bad() {
+        // Itself, a later line, a line without a frame, a bad line.
+        let output = run_bench(b"D 1 1\nD 1 3\nT 2 1\nD 1 3\nD 1 2\n");
+        let expected = "1 bad\n2 bad\n3 2 ok 1 0 0 0 0 - -\n4 bad\n5 bad\n";
+        assert_eq!(output, with_header(expected));
+    }
+
+    #[test]
+    fn refused_and_ignored_lines_show_the_replica() {
+        let output = run_bench(b"T 1 8\nD 1 1\nG 1\nG 2\nT 3 4\nG 3\nD 1 6\nD 2 6\n");
+        let expected = "1 1 ok 1 0 0 1 0 1 -\n\
+                        2 1 r9 1 0 0 1 0 - -\n\
+                        3 1 ignored 1 0 0 1 0 - -\n\
+                        4 2 ignored 0 0 0 0 0 - -\n\
+                        5 3 ok 1 0 0 0 0 - -\n\
+                        6 3 ok 1 1 0 0 0 6 -\n\
+                        7 1 r10 1 0 0 1 0 - -\n\
+                        8 2 ignored 0 0 0 0 0 - -\n";
+        assert_eq!(output, with_header(expected));
+    }
+
+    #[test]
+    fn empty_input_prints_the_header_alone() {
+        assert_eq!(run_bench(b""), with_header(""));
+        assert_eq!(run_rig(b""), "bad\n");
+        assert_eq!(run_rig(SMALL_RIG.as_bytes()), with_header(""));
+    }
+
+    #[test]
+    fn what_stands_behind_line_500_is_not_read() {
+        let input = "\n".repeat(501);
+        assert_eq!(run_bench(input.as_bytes()).lines().count(), 501);
+        let input = format!("{SMALL_RIG}\n{input}");
+        let output = run_rig(input.as_bytes());
+        assert_eq!(output.lines().count(), 501);
+        assert!(output.ends_with("\n500 bad\n"));
+    }
+
+    #[test]
+    fn first_lines_of_the_rig() {
+        let cases = [
+            ("", "bad"),
+            ("rig", "bad"),
+            ("rig ", "bad"),
+            ("Rig 2 1 1 1", "bad"),
+            ("rig 2 1 1", "bad"),
+            ("rig 2 1 1 256", "bad"),
+            ("rig 2 1 1 -1", "bad"),
+            ("rig 2 1 1 01", "bad"),
+            ("rig 2 1 1 1x", "bad"),
+            ("rig  2 1 1 1", "bad"),
+            (" rig 2 1 1 1", "bad"),
+            ("rig 2 1 1 1", "r1"),
+            ("rig 2 1 1 1 ", "r1"),
+            ("rig 2 1 1 1 x", "r1"),
+            ("rig 10 0 1 1", "r1"),
+            ("rig 0 0 0 0", "r1"),
+            ("rig 255 255 255 255", "r1"),
+            ("rig 3 0 1 1", "r2"),
+            ("rig 3 7 1 1 x", "r2"),
+            ("rig 3 1 5 1", "r2"),
+            ("rig 3 1 1 0", "r2"),
+            ("rig 3 1 1 1", "bad"),
+            ("rig 3 1 1 1 1 1 1 1 1 1", "bad"),
+            ("rig 3 1 1 1 1 1 1 1 1 1 ", "bad"),
+            ("rig 3 1 1 1 1 1 1 1 1 1 1 1", "bad"),
+            ("rig 3 1 1 1 1 1 1 1 1 1 1 ", "bad"),
+            ("rig 3 1 1 1 1 1 1 1 1 1 1\r", "bad"),
+            ("rig 3 1 1 1 1 1 1 1 1 1 2147483648", "bad"),
+            ("rig 3 1 1 1 1 1 1 1 1 1 2147483647", HEADER),
+            ("rig 3 1 1 1 16777217 1 1 1 2 1 1", "r3"),
+            ("rig 3 1 1 1 16777217 1 1 1 2 1 x", "bad"),
+            ("rig 3 1 1 1 16777216 1 1 1 2 1 1", "r4"),
+            ("rig 9 1 1 1 16777216 1 1 -16777216 1 1 1", HEADER),
+        ];
+        for (line, expected) in cases {
+            let output = run_rig(format!("{line}\n").as_bytes());
+            assert_eq!(output, format!("{expected}\n"), "{line}");
+        }
+    }
+
+    #[test]
+    fn tables_of_the_rig_are_read_row_by_row() {
+        let line = b"rig 4 2 1 3 1 2 3 4 5 6 7 8 9 10 11 12 13 14 15 16 17 18 19 20 21 22";
+        let group = rig_group(line).unwrap();
+        let settings = group.replicas[3].settings;
+        assert_eq!((settings.n, settings.m, settings.p), (2, 1, 3));
+        assert_eq!(settings.a[0][..2], [1, 2]);
+        assert_eq!(settings.a[1][..2], [3, 4]);
+        assert_eq!((settings.l[0][0], settings.l[1][0]), (5, 6));
+        assert_eq!(settings.c[0][..2], [7, 8]);
+        assert_eq!(settings.k[2][..2], [13, 14]);
+        assert_eq!(settings.lower[..3], [15, 16, 17]);
+        assert_eq!(settings.upper[..3], [18, 19, 20]);
+        assert_eq!(settings.start[..2], [21, 22]);
+    }
+
+    #[test]
+    fn the_rig_prints_states_and_commands_with_commas() {
+        let input = "rig 3 2 2 2 \
+                     65536 0 0 65536 32768 0 0 32768 65536 0 0 65536 65536 0 0 65536 \
+                     -100 -100 100 100 4 -4\n\
+                     T 1 10 -\nT 2 - -\nD 2 1\nD 1 3\nT 1 300 1\nT 1 -\n";
+        let expected = "1 1 ok 1 0 0 1 4,-4 1 -\n\
+                        2 2 ok 1 0 0 0 4,-4 - -\n\
+                        3 2 ok 1 0 0 1 4,-4 3 -\n\
+                        4 1 ok 1 0 0 1 4,-4 4 7,-4\n\
+                        5 1 ok 2 0 0 2 7,-4 5 -\n\
+                        6 bad\n";
+        assert_eq!(run_rig(input.as_bytes()), with_header(expected));
+    }
+}

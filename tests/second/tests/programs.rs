@@ -1,0 +1,171 @@
+//! The two programs as they run: standard input, standard output and the
+//! planted faults.
+
+use std::io::Write;
+use std::process::{Command, Output, Stdio};
+
+const BENCH: &str = env!("CARGO_BIN_EXE_bench");
+const RIG: &str = env!("CARGO_BIN_EXE_rig");
+
+const EXAMPLE: &str = "T 1 100\nT 2 102\nD 2 1\nD 1 3\nD 2 4\nT 2 -\n";
+
+fn run(program: &str, fault: &str, input: &[u8]) -> Output {
+    let mut child = Command::new(program)
+        .env("SECOND_FAULT", fault)
+        .stdin(Stdio::piped())
+        .stdout(Stdio::piped())
+        .stderr(Stdio::piped())
+        .spawn()
+        .unwrap();
+    // A program that ends early may leave the rest of its input unread.
+    let _ = child.stdin.take().unwrap().write_all(input);
+    child.wait_with_output().unwrap()
+}
+
+fn lines(program: &str, fault: &str, input: &str) -> Vec<String> {
+    let output = run(program, fault, input.as_bytes());
+    assert!(output.status.success());
+    let text = String::from_utf8(output.stdout).unwrap();
+    text.lines().map(str::to_string).collect()
+}
+
+/// The fault must show, first on the line given (counted from 1 behind the
+/// header), as the row given.
+fn assert_shows(program: &str, fault: &str, input: &str, line: usize, row: &str) {
+    let right = lines(program, "", input);
+    let wrong = lines(program, fault, input);
+    assert_eq!(right[..line], wrong[..line], "{fault}");
+    assert_ne!(right[line], wrong[line], "{fault}");
+    assert_eq!(wrong[line], row, "{fault}");
+}
+
+fn rig_of(boxes: u8, script: &str) -> String {
+    let settings = "1 1 1 32768 32768 65536 65536 -2147483648 2147483647 8";
+    format!("rig {boxes} {settings}\n{script}")
+}
+
+#[test]
+fn bench_prints_the_example() {
+    let expected = [
+        "no who answer k v vb kb x frame command",
+        "1 1 ok 1 0 0 1 0 1 -",
+        "2 2 ok 1 0 0 0 0 - -",
+        "3 2 ok 1 0 0 1 0 3 -",
+        "4 1 ok 1 0 0 1 0 4 50",
+        "5 2 ok 1 0 0 1 0 - 50",
+        "6 2 ok 2 0 0 1 50 - -",
+    ];
+    assert_eq!(lines(BENCH, "", EXAMPLE), expected);
+}
+
+#[test]
+fn rig_prints_the_example_too() {
+    let settings = "1 1 1 65536 32768 65536 65536 -2147483648 2147483647 0";
+    let input = format!("rig 3 {settings}\n{EXAMPLE}");
+    assert_eq!(lines(RIG, "", &input), lines(BENCH, "", EXAMPLE));
+}
+
+#[test]
+fn any_bytes_are_answered_line_by_line() {
+    let mut seed: u32 = 1;
+    let mut bytes = Vec::new();
+    for _ in 0..20_000 {
+        seed = seed.wrapping_mul(1_664_525).wrapping_add(1_013_904_223);
+        bytes.push((seed >> 24) as u8);
+    }
+    let count = bytes.split(|&byte| byte == b'\n').count();
+    let output = run(BENCH, "", &bytes);
+    assert!(output.status.success());
+    let printed = String::from_utf8(output.stdout).unwrap();
+    assert_eq!(printed.lines().count(), 1 + count.min(500));
+    assert_eq!(run(RIG, "", &bytes).stdout, b"bad\n");
+}
+
+#[test]
+fn an_unknown_fault_is_an_error() {
+    let output = run(BENCH, "no_such_fault", b"");
+    assert!(!output.status.success());
+    assert!(output.stdout.is_empty());
+}
+
+#[test]
+fn base_period_first_shows() {
+    // Boxes 2, 3 and 5 change to view 1, where box 3 accepts in period 1.
+    // Box 4 stays and accepts in view 0 in period 2. Then box 3 gathers
+    // estimates for view 2: its own is of base view 1, box 4's of period 2.
+    let script = "T 1 10\nT 2 20\nT 3 30\nT 4 40\nT 5 50\n\
+                  G 2\nG 3\nG 5\nD 2 7\nD 2 8\nD 3 10\n\
+                  T 1 60\nT 4 70\nD 4 12\nG 4\nG 4\n\
+                  T 3 80\nG 3\nD 3 16\nT 5 90\nG 5\nD 3 21\n";
+    let input = rig_of(5, script);
+    assert_eq!(lines(RIG, "", &input)[22], "22 3 ok 2 2 2 2 10 22 -");
+    let row = "22 3 ok 2 2 2 2 5 22 -";
+    assert_shows(RIG, "base_period_first", &input, 22, row);
+}
+
+#[test]
+fn own_readings_shows() {
+    let input = "T 1 100\nT 2 102\nD 2 1\nT 2 -\n";
+    assert_shows(BENCH, "own_readings", input, 4, "4 2 ok 2 0 0 1 51 - -");
+}
+
+#[test]
+fn doubled_ack_shows() {
+    let script = "T 1 10\nT 2 10\nD 2 1\nD 1 3\nD 1 3\n";
+    let row = "5 1 ok 1 0 0 1 8 5 5";
+    assert_shows(RIG, "doubled_ack", &rig_of(4, script), 5, row);
+}
+
+#[test]
+fn doubled_acks_add_up() {
+    // A majority of 9 is 5: the box itself and four Acks, all of box 2.
+    let script = "T 1 10\nT 2 10\nD 2 1\nD 1 3\nD 1 3\nD 1 3\nD 1 3\n";
+    let wrong = lines(RIG, "doubled_ack", &rig_of(9, script));
+    assert_eq!(wrong[6], "6 1 ok 1 0 0 1 8 - -");
+    assert_eq!(wrong[7], "7 1 ok 1 0 0 1 8 7 5");
+}
+
+#[test]
+fn old_estimate_shows() {
+    let input = "T 1 100\nT 1 100\n";
+    assert_shows(BENCH, "old_estimate", input, 2, "2 1 ok 2 0 0 2 0 2 -");
+}
+
+#[test]
+fn first_tick_shows() {
+    let input = rig_of(3, "T 1 100\n");
+    assert_shows(RIG, "first_tick", &input, 1, "1 1 ok 1 0 0 1 4 1 -");
+}
+
+#[test]
+fn quorum_smaller_shows() {
+    let script = "T 1 10\nT 2 10\nD 2 1\nD 1 3\n";
+    let row = "4 1 ok 1 0 0 1 8 4 5";
+    assert_shows(RIG, "quorum_smaller", &rig_of(4, script), 4, row);
+}
+
+#[test]
+fn heard_kept_shows() {
+    // Box 1 has heard itself and box 2 when box 3's Estimate of view 4 comes.
+    let script = "T 1 10\nT 2 10\nD 2 1\nD 1 3\nT 3 9\nG 3\nG 3\nG 3\nG 3\nD 1 9\n";
+    let row = "10 1 ok 1 4 4 1 8 10 -";
+    assert_shows(RIG, "heard_kept", &rig_of(4, script), 10, row);
+}
+
+#[test]
+fn command_before_shows() {
+    let row = "4 1 ok 1 0 0 1 0 4 0";
+    assert_shows(BENCH, "command_before", EXAMPLE, 4, row);
+}
+
+#[test]
+fn round_to_zero_shows() {
+    let input = "T 1 -101\nT 1 -\n";
+    assert_shows(BENCH, "round_to_zero", input, 2, "2 1 ok 2 0 0 2 -50 2 -");
+}
+
+#[test]
+fn lower_view_shows() {
+    let input = "T 1 5\nT 2 7\nG 2\nD 2 1\n";
+    assert_shows(BENCH, "lower_view", input, 4, "4 2 ok 1 0 0 1 0 4 -");
+}

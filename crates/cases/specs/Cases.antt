@@ -77,6 +77,7 @@ cases =
     ∷ case (pos (better (estimate 3 1 1) (estimate 2 1 1) .state) ∷ one (better (estimate 2 1 1) (estimate 3 1 1) .state)) (pos 2 ∷ one 2)
     ∷ []
 
+-- every row holds
 pub cases-hold : map (λ (c : Case). c .gives) cases ≡ map (λ (c : Case). c .says) cases
 unfolding updated refusal sizesInRange coefficientsInRange tableInRange every inRange limitsInOrder filled next e sum divided limited clamp majority coordinator frameBytes header littleEndian better beats pick
 cases-hold = refl

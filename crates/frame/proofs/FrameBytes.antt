@@ -98,11 +98,3 @@ module _ (n m : ℕ) (f : Frame) (hk : f .kind < 256) (hs : f .sender < 256) whe
   bytes-by true k = rw (ack-bytes n m f k) (bytes-header f hk hs)
   bytes-by false k =
       rw (full-bytes n m f k) (bytes-append _ _ (bytes-append _ _ (bytes-header f hk hs) (bytes-pairs n m)) (bytes-parts n m (f .state) (f .readings)))
-
-  pub bytes-frame : AllBytes (frameBytes n m f)
-  bytes-frame = bytes-by (isAck (f .kind)) refl
-
-pub bytes-command : (p period : ℕ) (values : List ℤ) → p < 256 → AllBytes (commandBytes p period values)
-unfolding commandBytes
-bytes-command p period values h =
-    bytes-append _ _ (bytes-append _ _ (bytes-cons 5 _ (omega arith) (bytes-cons p _ h (bytes-cons 0 _ (omega arith) (bytes-cons 0 [] (omega arith) bytes-none)))) (bytes-littleEndian 4 period)) (bytes-values (take p values))

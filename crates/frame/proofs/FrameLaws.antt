@@ -5,26 +5,23 @@ use mathlib.Core.List.{List}
 use Prim.Native.Nat.{ℕ, _+_, _*_, _≤_}
 use native.Mathlib.Omega.{arith}
 use lib.ListN.{length}
-use lib.IntN.{ℤ, pos}
-use Rattle.readings.specs.Places.{entry}
+use lib.IntN.{ℤ}
 use Rattle.readings.specs.Readings.{normalised, strayMark}
 use Rattle.frame.specs.Sizes.{sizesOk, commandsOk}
 use Rattle.frame.specs.Bytes.{AllBytes}
 use Rattle.frame.specs.Marks.{absentZero}
 use Rattle.frame.specs.Format.{isAck, frameBytes, frameLength}
 use Rattle.frame.specs.Fields.{Typed, noState, noReadings, withParts, firstStates, carried}
-use Rattle.frame.specs.Reading.{kindOk, readRefusal, readFrame, ReadAs}
-use Rattle.frame.specs.Writing.{wellFormed, writeRefusal, written}
+use Rattle.frame.specs.Reading.{kindOk, readFrame, ReadAs}
+use Rattle.frame.specs.Writing.{wellFormed}
 use Rattle.frame.specs.Command.{commandBytes}
 use Rattle.frame.specs.declared.Frame.{Frame}
 use Rattle.frame.proofs.Booleans.{or-true}
-use Rattle.frame.proofs.FilledPlaces.{filled-again}
 use Rattle.frame.proofs.PresentMarks.{normalised-clean, normalised-absent}
 use Rattle.frame.proofs.Conditions.{sizes, commands}
-use Rattle.frame.proofs.Refusals.{accepted, write-done, frame-written}
-use Rattle.frame.proofs.FrameBytes.{length-frame, length-most, bytes-frame, length-command, bytes-command}
+use Rattle.frame.proofs.FrameBytes.{length-frame, length-most, length-command}
 use Rattle.frame.proofs.ReadFields.{given}
-use Rattle.frame.proofs.RoundTrip.{read-write, write-read, read-well-formed}
+use Rattle.frame.proofs.RoundTrip.{read-write}
 
 -- ---- the bytes of a frame
 
@@ -38,23 +35,12 @@ pub frame-length-most : (n m : ℕ) (f : Frame) → Typed f → sizesOk n m ≡ 
 frame-length-most n m f t ok =
     let z = sizes n m ok in rw (frame-length n m f t ok) (length-most n m (f .kind) (z .n-high) (z .m-high))
 
-pub frame-all-bytes : (n m : ℕ) (f : Frame) → Typed f → AllBytes (frameBytes n m f)
-frame-all-bytes n m f t = bytes-frame n m f (t .kind) (t .sender)
-
 -- ---- the bytes of a command
 
 pub command-length : (p period : ℕ) (values : List ℤ) → commandsOk p ≡ true → length values ≡ 4 → length (commandBytes p period values) ≡ 8 + 4 * p
 command-length p period values ok h = length-command p period values (omega (arith, commands p ok))
 
-pub command-all-bytes : (p period : ℕ) (values : List ℤ) → commandsOk p ≡ true → AllBytes (commandBytes p period values)
-command-all-bytes p period values ok = bytes-command p period values (omega (arith, commands p ok))
-
 -- ---- frames that are read back as they are
-
--- an Ack is well-formed
-pub ack-well-formed : (m : ℕ) (f : Frame) → f .kind ≡ 2 → wellFormed m f ≡ true
-unfolding wellFormed kindOk
-ack-well-formed m f e = rw e
 
 -- so is a frame of each kind whose readings are as the law reads them
 pub normalised-well-formed : (m : ℕ) (f : Frame) → m ≤ 4 → kindOk (f .kind) ≡ true → normalised m (f .readings) ≡ f .readings → wellFormed m f ≡ true
@@ -63,10 +49,6 @@ normalised-well-formed m f hm known e =
     let clean : strayMark m (f .readings) ≡ false = ap (strayMark m) (sym e) ∙ normalised-clean m (f .readings) hm in
     let absent : absentZero m (f .readings) ≡ true = ap (absentZero m) (sym e) ∙ normalised-absent m (f .readings) hm in
     rw (known, clean, absent) (or-true (isAck (f .kind)))
-
--- a state that was made so once stays so
-pub first-states-again : (n : ℕ) (x : List ℤ) → firstStates n (firstStates n x) ≡ firstStates n x
-first-states-again n x = filled-again (pos 0) 6 n (entry x)
 
 -- an Ack with no state and no readings is all that its bytes carry
 pub ack-carried : (n m : ℕ) (f : Frame) → isAck (f .kind) ≡ true → f .state ≡ noState → f .readings ≡ noReadings → carried n m f ≡ f
@@ -85,18 +67,7 @@ read-exact n m f t ok good e = subst (ReadAs n m (frameBytes n m f)) e (read-wri
 
 -- ---- what was read is written again
 
-pub written-back : (n m : ℕ) (b area : List ℕ) → AllBytes b → readRefusal n m b ≡ 0 → 69 ≤ length area
-    → (writeRefusal n m (readFrame n m b) area ≡ 0) × (written n m (readFrame n m b) area ≡ b)
-written-back n m b area h e room =
-    let f = readFrame n m b in
-    let done = write-done n m f area (accepted n m b e .sized) room (read-well-formed n m b h e) in
-    (done, frame-written n m f area done ∙ write-read n m b h e)
-
 -- ---- what reading gives, refused or not
-
--- its fields are within their types
-pub read-typed : (n m : ℕ) (b : List ℕ) → AllBytes b → Typed (readFrame n m b)
-read-typed n m b h = given n m b h .typed
 
 -- its state has 0 beyond n
 pub read-state : (n m : ℕ) (b : List ℕ) → AllBytes b → firstStates n (readFrame n m b .state) ≡ readFrame n m b .state

@@ -14,5 +14,3 @@ pub mod RoundTrip
 pub mod ReadFields
 pub mod FrameLaws
 pub mod Cases
-pub mod ArrayFields
-pub mod AnswerTags

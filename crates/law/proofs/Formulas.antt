@@ -10,7 +10,7 @@ use Rattle.readings.specs.Places.{entry, filled}
 use Rattle.readings.specs.Readings.{present, value, normalised}
 use Rattle.readings.proofs.Places.{filled-at}
 use Rattle.law.specs.Fixed.{divided, sum, clamp}
-use Rattle.law.specs.Law.{e, next, command}
+use Rattle.law.specs.Law.{e, next}
 use Rattle.law.proofs.Sums.{sum-same}
 
 -- equal in the first n places
@@ -28,14 +28,6 @@ next-same A L n m x x′ f g hx he = fun-ext (λ i. rw (products-same n (A i) (e
 pub next-filled : (A L : ℕ → ℕ → ℤ) (n m : ℕ) (x : List ℤ) (f : ℕ → ℤ) (kept : List ℤ) → m ≤ 4 → kept ≡ filled (pos 0) 4 m f → next A L n m x (entry kept) ≡ next A L n m x f
 next-filled A L n m x f kept h same =
     next-same A L n m x x (entry kept) f (λ _ _. refl) (λ j l. ap (λ (r : List ℤ). entry r j) same ∙ filled-at (pos 0) 4 m j f l (lt-of-lt-of-le l h))
-
-pub command-same : (K : ℕ → ℕ → ℤ) (lower upper : ℕ → ℤ) (n : ℕ) (x x′ : List ℤ) → Agree n (entry x) (entry x′) → command K lower upper n x ≡ command K lower upper n x′
-unfolding command
-command-same K lower upper n x x′ h = fun-ext (λ j. rw (products-same n (K j) (entry x) (entry x′)))
-
-pub e-same : (C : ℕ → ℕ → ℤ) (n : ℕ) (x x′ : List ℤ) (y : Readings) → Agree n (entry x) (entry x′) → e C n x y ≡ e C n x′ y
-unfolding e
-e-same C n x x′ y h = fun-ext (λ j. rw (products-same n (C j) (entry x) (entry x′)))
 
 -- a value that was read under its mark is read under it again
 read-twice : (mark : Bool) (v q : ℤ) → cond mark (clamp (cond mark (cond mark v (pos 0)) (pos 0) -ℤ q)) (pos 0) ≡ cond mark (clamp (cond mark v (pos 0) -ℤ q)) (pos 0)

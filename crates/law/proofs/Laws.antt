@@ -3,22 +3,22 @@ use mathlib.Core.Path.{_≡_, refl, sym, ap, subst}
 use mathlib.Core.List.{List}
 use Prim.Native.Nat.{ℕ, zero, suc, _≤_, _<_, zero-le}
 use lib.Dec.{lit<}
-use lib.ListN.{length, replicate}
+use lib.ListN.{length}
 use lib.IntN.{ℤ, pos}
 use mir.Syntax.{w32}
 use mir.Val.{SFits}
-use borrow.Author.Tests.{eqb-true, eq-eqb, ne-eqb}
+use borrow.Author.Tests.{eqb-true, eq-eqb}
 use Rattle.readings.specs.declared.Readings.{Readings}
 use Rattle.readings.specs.Places.{entry, filled}
 use Rattle.readings.specs.Readings.{normalised}
-use Rattle.readings.proofs.Places.{filled-none, filled-length, filled-behind}
+use Rattle.readings.proofs.Places.{filled-length, filled-behind}
 use Rattle.law.specs.declared.Settings.{Settings}
 use Rattle.law.specs.Settings.{C, refusal, stands}
-use Rattle.law.specs.Law.{next, command, updated, commanded}
+use Rattle.law.specs.Law.{next, updated}
 use Rattle.law.proofs.Booleans.{cond-holds, cond-same}
-use Rattle.law.proofs.Integers.{limited-fits, clamp-fits}
+use Rattle.law.proofs.Integers.{clamp-fits}
 use Rattle.law.proofs.Accepted.{Sizes, accepted}
-use Rattle.law.proofs.Formulas.{next-same, e-same, e-normalised, command-same}
+use Rattle.law.proofs.Formulas.{next-same, e-normalised}
 
 -- every place holds an i32
 abbrev pub FitI32 : List ℤ → Type 0
@@ -38,11 +38,6 @@ filled-fits (suc width) zero f h i = subst (SFits w32) (sym (filled-behind (pos 
 filled-fits (suc width) (suc n) f h zero = h 0
 filled-fits (suc width) (suc n) f h (suc i) = filled-fits width n (λ k. f (suc k)) (λ k. h (suc k)) i
 
--- the state as it was handed in comes back from refused settings
-pub updated-refused : (s : Settings) (x : List ℤ) (y : Readings) → (refusal s ≡ 0 → ⊥) → updated s x y ≡ x
-unfolding updated
-updated-refused s x y h = simp (ne-eqb (refusal s) 0 h)
-
 pub updated-length : (s : Settings) (x : List ℤ) (y : Readings) → length x ≡ 6 → length (updated s x y) ≡ 6
 unfolding updated
 updated-length s x y h = cond-holds (λ (v : List ℤ). length v ≡ 6) (stands s) (filled (pos 0) 6 (s .n) _) x (λ _. filled-length (pos 0) 6 (s .n) _) (λ _. h)
@@ -56,14 +51,6 @@ pub updated-behind : (s : Settings) (x : List ℤ) (y : Readings) → refusal s 
 unfolding updated
 updated-behind s x y h i l = simp (eq-eqb (refusal s) 0 h) (filled-behind (pos 0) 6 (s .n) i _ l)
 
--- the places of a state beyond n are not looked at
-pub updated-same : (s : Settings) (x x′ : List ℤ) (y : Readings) → refusal s ≡ 0 → ((i : ℕ) → i < s .n → entry x i ≡ entry x′ i) → updated s x y ≡ updated s x′ y
-unfolding updated
-updated-same s x x′ y h a =
-    simp (eq-eqb (refusal s) 0 h)
-    (ap (λ (f : ℕ → ℤ). filled (pos 0) 6 (s .n) f)
-    (next-same _ _ (s .n) (s .m) x x′ _ _ a (λ j _. ap (λ (f : ℕ → ℤ). f j) (e-same (C s) (s .n) x x′ y a))))
-
 -- readings are looked at as `normalised` has them: marks below m, 0 where absent
 pub updated-normalised : (s : Settings) (x : List ℤ) (y : Readings) → updated s x (normalised (s .m) y) ≡ updated s x y
 unfolding updated
@@ -72,29 +59,3 @@ updated-normalised s x y =
     (λ t. ap (λ (f : ℕ → ℤ). filled (pos 0) 6 (s .n) f)
     (next-same _ _ (s .n) (s .m) x x _ _ (λ _ _. refl)
     (e-normalised (C s) (s .n) (s .m) x y (sizes-accepted s (eqb-true (refusal s) 0 t) .m4))))
-
-pub commanded-length : (s : Settings) (x : List ℤ) → length (commanded s x) ≡ 4
-unfolding commanded
-commanded-length s x = cond-holds (λ (v : List ℤ). length v ≡ 4) (stands s) (filled (pos 0) 4 (s .p) _) (replicate 4 (pos 0)) (λ _. filled-length (pos 0) 4 (s .p) _) (λ _. refl)
-
-pub commanded-fits : (s : Settings) (x : List ℤ) → FitI32 (s .low) → FitI32 (s .high) → FitI32 (commanded s x)
-unfolding commanded command
-commanded-fits s x fl fh =
-    cond-holds FitI32 (stands s) (filled (pos 0) 4 (s .p) _) (replicate 4 (pos 0))
-    (λ _. filled-fits 4 (s .p) _ (λ j. limited-fits _ _ _ (fl _) (fh _)))
-    (λ _. subst FitI32 (filled-none (pos 0) 4 (λ _. pos 0)) (filled-fits 4 0 (λ _. pos 0) (λ _. zero-fits)))
-
--- the places beyond p hold 0
-pub commanded-behind : (s : Settings) (x : List ℤ) (j : ℕ) → s .p ≤ j → entry (commanded s x) j ≡ pos 0
-unfolding commanded
-commanded-behind s x j l =
-    cond-holds (λ (v : List ℤ). entry v j ≡ pos 0) (stands s) (filled (pos 0) 4 (s .p) _) (replicate 4 (pos 0))
-    (λ _. filled-behind (pos 0) 4 (s .p) j _ l)
-    (λ _. subst (λ (v : List ℤ). entry v j ≡ pos 0) (filled-none (pos 0) 4 (λ _. pos 0)) (filled-behind (pos 0) 4 0 j (λ _. pos 0) zero-le))
-
--- the places of a state beyond n are not looked at
-pub commanded-same : (s : Settings) (x x′ : List ℤ) → ((i : ℕ) → i < s .n → entry x i ≡ entry x′ i) → commanded s x ≡ commanded s x′
-unfolding commanded
-commanded-same s x x′ a =
-    cond-same (stands s) (filled (pos 0) 4 (s .p) _) (filled (pos 0) 4 (s .p) _) (replicate 4 (pos 0))
-    (λ _. ap (λ (f : ℕ → ℤ). filled (pos 0) 4 (s .p) f) (command-same _ _ _ (s .n) x x′ a))

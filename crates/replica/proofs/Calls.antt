@@ -19,7 +19,8 @@ use Rattle.replica.specs.declared.Replica.{Replica}
 use Rattle.replica.specs.Settings.{settingsRefusal, lawOf, groupOf}
 use Rattle.replica.specs.Held.{held, replicaOf}
 use Rattle.replica.specs.Frames.{messageOf, found}
-use Rattle.replica.specs.Calls.{checked, stepRefusal, tickRefusal, madeAnswer, made, blankSettings}
+use Rattle.replica.specs.Calls.{checked, stepRefusal, madeAnswer, made, blankSettings}
+use Rattle.replica.specs.Rules.{tickRefusal}
 
 -- ---- making
 

@@ -15,7 +15,8 @@ use Rattle.replica.specs.declared.Replica.{Replica}
 use Rattle.replica.specs.declared.Stepped.{Stepped}
 use Rattle.replica.specs.Held.{held}
 use Rattle.replica.specs.Frames.{sentBytes, issuedBytes}
-use Rattle.replica.specs.Calls.{checked, stepRefusal, tickRefusal, Gives, refusedStep, ignoredStep}
+use Rattle.replica.specs.Calls.{checked, stepRefusal, Gives}
+use Rattle.replica.specs.Rules.{tickRefusal, refusedStep, ignoredStep}
 use Rattle.replica.proofs.Calls.{checked-refused, checked-done, ticks, next, tick-refused, Ticks}
 
 module _ (r : Replica) (frame command : List ℕ) where

@@ -1,18 +1,15 @@
 -- What the four calls give, by the protocol's definitions at the settings of the replica handed in.
 use Prim.Native.Nat.{ℕ}
 use mathlib.Core.Path.{_≡_}
-use mathlib.Core.Bool.{Bool, true, not, _&&_, _||_}
+use mathlib.Core.Bool.{Bool, not, _||_}
 use mathlib.Core.List.{List}
-use mathlib.Core.Option.{none, some}
 use lib.ListN.{length, replicate}
-use lib.Dec.{eqb, leb, ltb}
+use lib.Dec.{eqb, ltb}
 use lib.IntN.{ℤ, pos}
 use Rattle.readings.specs.declared.Readings.{Readings}
 use Rattle.readings.specs.Readings.{normalised, strayMark}
 use Rattle.scram.specs.declared.Answer.{Answer}
-use Rattle.scram.specs.declared.Answer.the-variants.{Done, Ignored, Refused}
-use Rattle.scram.specs.declared.Kind.the-variants.{Decide}
-use Rattle.scram.specs.Quorum.{majority, among, with, count}
+use Rattle.scram.specs.declared.Answer.the-variants.{Done, Refused}
 use Rattle.scram.specs.Replica.{Outcome, fresh}
 use Rattle.scram.specs.Events as Events
 use Rattle.scram.specs.Events.{pick, refusing}
@@ -95,35 +92,3 @@ madeAnswer s = pick (eqb (settingsRefusal s) 0) Done (Refused (settingsRefusal s
 -- the fresh replica of settings; "Making settings refuses without a replica": what is given then is one that every step refuses by 1
 unfoldable pub made : Settings → Replica
 made s = pick (eqb (settingsRefusal s) 0) (replicaOf s (fresh (lawOf s))) (replicaOf blankSettings (fresh (lawOf blankSettings)))
-
--- the number of the refusal of a tick, or 0
-unfoldable pub tickRefusal : Replica → Readings → ℕ
-tickRefusal r y =
-    pick (Events.lastPeriod (r .period)) 6
-    (pick (strayMark (r .settings .law .m) y) 7 (pick (r .«view_change» && Events.lastView (r .view)) 12 0))
-
--- a refused step
-abbrev pub refusedStep : Replica → ℕ → Stepped
-refusedStep r number = record { answer = Refused number; replica = r; frame = 0; command = 0 }
-
--- an ignored step
-abbrev pub ignoredStep : Replica → Stepped
-ignoredStep r = record { answer = Ignored; replica = r; frame = 0; command = 0 }
-
--- a view entered as another box, with the Estimate that is sent
-abbrev pub followed : Replica → ℕ → Outcome (List ℤ) Readings
-followed r view =
-    Events.doing (Events.following (lawOf (r .settings)) (held r) view)
-    (some (Events.estimating (lawOf (r .settings)) (r .settings .own) (held r) view))
-    none
-
--- whether the boxes heard, with one more, are a majority
-abbrev pub majorityHeard : Replica → ℕ → Bool
-majorityHeard r box = leb (majority (r .settings .boxes)) (count (among (with (r .heard) box)) (r .settings .boxes))
-
--- the box decides with one more Ack
-abbrev pub decided : Replica → ℕ → Outcome (List ℤ) Readings
-decided r box =
-    Events.doing (Events.hearing (held r) box (held r .best) true)
-    (some (Events.carrying Decide (r .settings .own) (r .period) (r .view) (r .state) (r .readings)))
-    (some (Events.commandOf (lawOf (r .settings)) (r .period) (r .state) (r .readings)))

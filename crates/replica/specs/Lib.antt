@@ -2,4 +2,4 @@ pub mod Settings
 pub mod Held
 pub mod Frames
 pub mod Calls
-pub mod Ready
+pub mod Rules

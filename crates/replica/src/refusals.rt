@@ -2,7 +2,8 @@
 ghost use mathlib.Core.Path.{_≡_};
 ghost use Rattle.law.specs.Answer.{number};
 ghost use Rattle.replica.specs.Settings.{badGroup, settingsRefusal};
-ghost use Rattle.replica.specs.Calls.{shortArea, stepRefusal, tickRefusal, refusedStep, ignoredStep};
+ghost use Rattle.replica.specs.Calls.{shortArea, stepRefusal};
+ghost use Rattle.replica.specs.Rules.{tickRefusal, refusedStep, ignoredStep};
 use crate::Replica;
 use crate::Settings;
 use crate::Stepped;

@@ -2,7 +2,7 @@
 use mathlib.Core.Path.{sym, _∙_}
 use borrow.Author.Tests.{le-leb, lt-leb}
 use Rattle.scram.specs.Events.{pick}
-use Rattle.replica.specs.Calls.{tickRefusal}
+use Rattle.replica.specs.Rules.{tickRefusal}
 use borrow.Author.Needs.{needs}
 use Rattle.replica.proofs.refusals.tick_refusal.Statement.{statement}
 use Rattle.replica.proofs.refusals.tick_refusal.Tie as tie

@@ -1,0 +1,9 @@
+pub mod FieldLaws
+pub mod NumberLaws
+pub mod TextLaws
+pub mod LineLaws
+pub mod RoundTrip
+pub mod LongLines
+pub mod PlaceLaws
+pub mod PlayLaws
+pub mod OpeningLaws

@@ -1,0 +1,98 @@
+-- `play::play_event` meets its contract. Assumes nothing.
+use mathlib.Core.Path.{ap, _∙_, subst}
+use lib.ListN.{getD, replicate}
+use borrow.Author.Needs.{needs}
+use native.Mathlib.Omega.{arith}
+use Rattle.replica.specs.Calls.{Gives}
+use Rattle.script.specs.Frames.{frameOf}
+use Rattle.script.specs.Printing.{stepLine}
+use Rattle.script.specs.Play.{outcomeOf, eventOutcome}
+use Rattle.script.proofs.PlayLaws.{sent-fits, plays}
+use Rattle.script.proofs.play.play_event.Statement.{statement}
+use Rattle.script.proofs.play.play_event.Tie as tie
+
+line-of-requires : tie.Need-line-of-requires
+line-of-requires c κs = search needs
+
+cast-size : tie.Need-cast-size
+cast-size c = search needs
+
+mul-size : tie.Need-mul-size
+mul-size c = search needs
+
+slice-read-size : tie.Need-slice-read-size
+slice-read-size c = search needs
+
+frame-of-requires : tie.Need-frame-of-requires
+frame-of-requires c κs = search needs
+
+slice-aggregate-step : tie.Need-slice-aggregate-step
+slice-aggregate-step c = search needs
+
+slice-aggregate-step-2 : tie.Need-slice-aggregate-step-2
+slice-aggregate-step-2 c = search needs
+
+step-requires : tie.Need-step-requires
+step-requires c κs = search needs
+
+slice-aggregate-keep : tie.Need-slice-aggregate-keep
+slice-aggregate-keep c = search needs
+
+keep-requires : tie.Need-keep-requires
+keep-requires c κs =
+    let h = sent-fits (c .before .before .before .before .step .ensures) (c .before .before .before .before .step .kept .1 .1 .1 .1 .0) in
+    (omega (arith, h, c .before .before .before .before .step .kept .1 .1 .1 .1 .0), omega (arith, h, c .before .before .before .before .before .before .before .before .before .before .before .before .before .pre))
+
+mul-lengths : tie.Need-mul-lengths
+mul-lengths c = search needs
+
+slice-write-lengths : tie.Need-slice-write-lengths
+slice-write-lengths c = search needs
+
+box-of-requires : tie.Need-box-of-requires
+box-of-requires c κs = search needs
+
+slice-aggregate-step-line : tie.Need-slice-aggregate-step-line
+slice-aggregate-step-line c = search needs
+
+step-line-requires : tie.Need-step-line-requires
+step-line-requires c κs = search needs
+
+same-length : tie.Need-same-length
+same-length c = search needs
+
+same-length-2 : tie.Need-same-length-2
+same-length-2 c = search needs
+
+returns : tie.Need-returns
+unfolding eventOutcome
+returns c =
+    let a = c .before .before .before .before .before .before .before .before .before .before .before .before .before .before .before .before .before .before .before .before .args in
+    let t = c .before .before .before .before .before .before .before .before .before .before .before .step in
+    let bytes = c .before .before .before .before .before .before .before .before .before .before .before .before .before .before .frame-of .ensures ∙ ap (λ f. frameOf (a .table .now) f (getD (a .lengths .now) f 0)) (c .before .before .before .before .before .before .before .before .before .before .before .before .before .before .before .before .before .line-of .ensures) in
+    let g = subst (λ b. Gives (a .replica .settings) (outcomeOf (a .replica) (a .event) (a .readings) b 69 24) (t .result) (replicate 69 0) (t .last .1 .1 .1 .1 .0) (replicate 24 0) (t .last .1 .1 .1 .1 .1 .0)) bytes (t .ensures) in
+    plays _ _ (a .table .now) _ (a .lengths .now) (c .step-line .result) g (c .before .before .before .before .before .before .keep .ensures)
+    (c .step-line .ensures ∙ ap (λ b. stepLine (a .number) b (t .result) (t .last .1 .1 .1 .1 .1 .0)) (c .before .before .box-of .ensures))
+
+pub play-event-spec : {M : Type 1} → statement M
+play-event-spec =
+    tie.close
+    (tie.spec
+    line-of-requires
+    cast-size
+    mul-size
+    slice-read-size
+    frame-of-requires
+    slice-aggregate-step
+    slice-aggregate-step-2
+    step-requires
+    slice-aggregate-keep
+    keep-requires
+    mul-lengths
+    slice-write-lengths
+    box-of-requires
+    slice-aggregate-step-line
+    step-line-requires
+    same-length
+    same-length-2
+    returns)

@@ -1,0 +1,59 @@
+-- `printing::put_answer` meets its contract. Assumes nothing.
+use mathlib.Core.Path.{sym, ap, _∙_}
+use borrow.Author.Needs.{needs}
+use Rattle.script.specs.Text.{shown, with}
+use Rattle.script.specs.Printing.{answerWord}
+use Rattle.script.proofs.printing.put_answer.Statement.{statement}
+use Rattle.script.proofs.printing.put_answer.Tie as tie
+
+enum-told : tie.Need-enum-told
+enum-told c = search needs
+
+slice-aggregate-put-word : tie.Need-slice-aggregate-put-word
+slice-aggregate-put-word c = search needs
+
+put-word-requires : tie.Need-put-word-requires
+put-word-requires c κs = search needs
+
+enum-told-2 : tie.Need-enum-told-2
+enum-told-2 c = search needs
+
+slice-aggregate-put-word-2 : tie.Need-slice-aggregate-put-word-2
+slice-aggregate-put-word-2 c = search needs
+
+put-word-requires-2 : tie.Need-put-word-requires-2
+put-word-requires-2 c κs = search needs
+
+enum-known-answer : tie.Need-enum-known-answer
+enum-known-answer c = search needs
+
+put-refusal-requires : tie.Need-put-refusal-requires
+put-refusal-requires c κs = search needs
+
+returns : tie.Need-returns
+unfolding answerWord
+returns c = c .put-word .ensures ∙ ap (λ a. with (shown (c .before .before .before .before .args .text)) (answerWord a)) (sym (c .before .before .enum-told .given .1))
+
+returns-2 : tie.Need-returns-2
+unfolding answerWord
+returns-2 c = c .put-word2 .ensures ∙ ap (λ a. with (shown (c .before .before .before .before .args .text)) (answerWord a)) (sym (c .before .before .enum-told2 .given .1))
+
+returns-3 : tie.Need-returns-3
+unfolding answerWord
+returns-3 c = c .put-refusal .ensures ∙ ap (λ a. with (shown (c .before .before .before .before .args .text)) (answerWord a)) (sym (c .before .before .answer .given .1))
+
+pub put-answer-spec : {M : Type 1} → statement M
+put-answer-spec =
+    tie.close
+    (tie.spec
+    enum-told
+    slice-aggregate-put-word
+    put-word-requires
+    enum-told-2
+    slice-aggregate-put-word-2
+    put-word-requires-2
+    enum-known-answer
+    put-refusal-requires
+    returns
+    returns-2
+    returns-3)

@@ -1,0 +1,29 @@
+-- `printing::put_sent` meets its contract. Assumes nothing.
+use borrow.Author.Tests.{eq-eqb, ne-eqb}
+use borrow.Author.Needs.{needs}
+use Rattle.script.specs.Printing.{sentWord}
+use Rattle.script.proofs.TextLaws.{then-with}
+use Rattle.script.proofs.printing.put_sent.Statement.{statement}
+use Rattle.script.proofs.printing.put_sent.Tie as tie
+
+put-byte-requires : tie.Need-put-byte-requires
+put-byte-requires c κs = search needs
+
+put-byte-requires-2 : tie.Need-put-byte-requires-2
+put-byte-requires-2 c κs = search needs
+
+returns : tie.Need-returns
+unfolding sentWord
+returns c = rw (eq-eqb _ _ (c .before .if1 .taken)) (then-with _ _ _ _ _ (c .before .before .put-byte .ensures) (c .put-byte2 .ensures))
+
+put-decimal-requires : tie.Need-put-decimal-requires
+put-decimal-requires c κs = search needs
+
+returns-2 : tie.Need-returns-2
+unfolding sentWord
+returns-2 c = rw (ne-eqb _ _ (c .before .if1 .left)) (then-with _ _ _ _ _ (c .before .before .put-byte .ensures) (c .put-decimal .ensures))
+
+pub put-sent-spec : {M : Type 1} → statement M
+put-sent-spec =
+    tie.close
+    (tie.spec put-byte-requires put-byte-requires-2 returns put-decimal-requires returns-2)

@@ -1,0 +1,44 @@
+-- `text::put_decimal` meets its contract. Assumes nothing.
+use mathlib.Core.Path.{_≡_, sym, ap, _∙_}
+use Prim.Native.Nat.{_-_}
+use lib.ListN.{length, take, drop}
+use borrow.Author.Needs.{needs}
+use native.Mathlib.Omega.{arith}
+use Rattle.frame.proofs.Areas.{to-the-end}
+use Rattle.script.specs.Text.{with}
+use Rattle.script.proofs.text.put_decimal.Statement.{statement}
+use Rattle.script.proofs.text.put_decimal.Tie as tie
+
+ten : (c : tie.After-digits-of) → length (c .digits-of .result .bytes) ≡ 10
+ten c = search needs
+
+digits-of-requires : tie.Need-digits-of-requires
+digits-of-requires c κs = search needs
+
+sub-put-word : tie.Need-sub-put-word
+sub-put-word c = search needs
+
+part-put-word-start : tie.Need-part-put-word-start
+part-put-word-start c = search needs
+
+part-put-word-end : tie.Need-part-put-word-end
+part-put-word-end c = omega (arith, ten (c .before .before))
+
+put-word-requires : tie.Need-put-word-requires
+put-word-requires c κs = search needs
+
+returns : tie.Need-returns
+returns c =
+    let d = c .before .before .before .before .digits-of in
+    c .put-word .ensures ∙ ap (with _) (ap (λ n. take (n - d .result .from) (drop (d .result .from) (d .result .bytes))) (sym (ten (c .before .before .before .before))) ∙ to-the-end (d .result .bytes) (d .result .from) ∙ d .ensures .1)
+
+pub put-decimal-spec : {M : Type 1} → statement M
+put-decimal-spec =
+    tie.close
+    (tie.spec
+    digits-of-requires
+    sub-put-word
+    part-put-word-start
+    part-put-word-end
+    put-word-requires
+    returns)

@@ -1,0 +1,55 @@
+-- `text::put_signed` meets its contract: a negative number is −1 − k, and its digits are those of k + 1. Assumes nothing.
+use mathlib.Core.Path.{ap, _∙_}
+use borrow.Author.Needs.{needs}
+use native.Mathlib.Omega.{arith}
+use Rattle.script.specs.Text.{with}
+use Rattle.script.proofs.TextLaws.{Below, below, signed-below, signed-from-zero, then-with}
+use Rattle.script.proofs.NumberLaws.{counted-fits}
+use Rattle.script.proofs.text.put_signed.Statement.{statement}
+use Rattle.script.proofs.text.put_signed.Tie as tie
+
+negative : (c : tie.Then1) → Below (c .before .args .z)
+negative c = below (c .before .args .z) (c .before .fits .z) (c .if1 .taken)
+
+sub-n : tie.Need-sub-n
+sub-n c = negative c .fits
+
+cast-n : tie.Need-cast-n
+cast-n c = let b = negative c in rw (b .size) (tt, record { fits = omega (arith, b .small) })
+
+add-n : tie.Need-add-n
+add-n c = let b = negative c in rw (b .size) (omega (arith, b .small))
+
+put-byte-requires : tie.Need-put-byte-requires
+put-byte-requires c κs = search needs
+
+put-decimal-requires : tie.Need-put-decimal-requires
+put-decimal-requires c κs = search needs
+
+returns : tie.Need-returns
+returns c =
+    let b = negative (c .before .before) in
+    then-with _ _ _ _ _ (c .before .put-byte .ensures) (c .put-decimal .ensures) ∙ ap (with _) (signed-below _ b)
+
+cast-put-decimal : tie.Need-cast-put-decimal
+cast-put-decimal c = counted-fits (c .before .args .z) (c .before .fits .z) (c .if1 .left)
+
+put-decimal-requires-2 : tie.Need-put-decimal-requires-2
+put-decimal-requires-2 c κs = search needs
+
+returns-2 : tie.Need-returns-2
+returns-2 c = c .put-decimal2 .ensures ∙ ap (with _) (signed-from-zero (c .before .before .args .z) (c .before .before .fits .z) (c .before .if1 .left))
+
+pub put-signed-spec : {M : Type 1} → statement M
+put-signed-spec =
+    tie.close
+    (tie.spec
+    sub-n
+    cast-n
+    add-n
+    put-byte-requires
+    put-decimal-requires
+    returns
+    cast-put-decimal
+    put-decimal-requires-2
+    returns-2)

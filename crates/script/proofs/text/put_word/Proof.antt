@@ -1,0 +1,65 @@
+-- `text::put_word` meets its contract. The loop's invariant: the first i bytes of the word were put. The measure is what is left of the word.
+-- Assumes nothing.
+use mathlib.Core.Path.{_≡_, _∙_}
+use Prim.Native.Nat.{_-_, _≤_, _<_}
+use native.Mathlib.Numerals.{add-one}
+use lib.ListN.{length, take}
+use lib.Seq.{take-suc, take-length}
+use borrow.Author.Needs.{needs}
+use native.Mathlib.Omega.{arith}
+use Rattle.script.specs.Text.{shown, with}
+use Rattle.script.proofs.TextLaws.{then-with, with-none, shown-length}
+use Rattle.script.proofs.text.put_word.Statement.{statement}
+use Rattle.script.proofs.text.put_word.Tie as tie
+
+abbrev Inv-loop : tie.InvT-loop
+Inv-loop word r₀ i₀ r i = (i ≤ length word) × (shown r ≡ with (shown r₀) (take i word))
+
+abbrev μ-loop : tie.MeasureT-loop
+μ-loop word r₀ i₀ r i = length word - i
+
+held : (c : tie.Start Inv-loop μ-loop) → length (c .args .text .bytes) ≡ 256
+held c = search needs
+
+loop-holds : tie.Need-loop-holds Inv-loop μ-loop
+loop-holds c = (omega arith, with-none _ (shown-length (c .before .args .text .bytes) (c .before .args .text .length) (held (c .before))))
+
+shared-slice-read-put-byte : tie.Need-shared-slice-read-put-byte Inv-loop μ-loop
+shared-slice-read-put-byte c = search needs
+
+put-byte-requires : tie.Need-put-byte-requires Inv-loop μ-loop
+put-byte-requires c κs = search needs
+
+add-i : tie.Need-add-i Inv-loop μ-loop
+add-i c = search needs
+
+loop-less : tie.Need-loop-less Inv-loop μ-loop
+loop-less c = search needs
+
+loop-again : tie.Need-loop-again Inv-loop μ-loop
+loop-again c =
+    let l = c .before .before .before .loop in
+    let s = c .before .before .before .before .before .args in
+    let h : l .i < length (s .word .now) = omega arith in
+    (omega arith, rw (add-one, take-suc (s .word .now) (l .i) 0 h) (then-with _ _ _ _ _ (l .inv .1) (c .put-byte .ensures)))
+
+returns : tie.Need-returns Inv-loop μ-loop
+returns c =
+    let l = c .before .loop in
+    let s = c .before .before .before .args in
+    let e : l .i ≡ length (s .word .now) = omega arith in
+    l .inv .1 ∙ rw (e, take-length)
+
+pub put-word-spec : {M : Type 1} → statement M
+put-word-spec =
+    tie.close
+    (tie.spec
+    Inv-loop
+    μ-loop
+    loop-holds
+    shared-slice-read-put-byte
+    put-byte-requires
+    add-i
+    loop-less
+    loop-again
+    returns)

@@ -1,0 +1,57 @@
+-- The lines that are printed, each with its line feed, as bytes: 10 is a line feed, 32 a space, 45 a minus, 98 97 100 `bad`, 111 107 `ok`,
+-- 105 103 110 111 114 101 100 `ignored` and 114 `r`.
+use Prim.Native.Nat.{ℕ, _+_}
+use mathlib.Core.Bool.{cond}
+use mathlib.Core.List.{List, [], _∷_, _++_}
+use lib.ListN.{take}
+use lib.Dec.{eqb}
+use lib.IntN.{ℤ}
+use Rattle.scram.specs.declared.Answer.{Answer}
+use Rattle.scram.specs.declared.Answer.the-variants.{Done, Ignored, Refused}
+use Rattle.frame.specs.Bytes.{valueAt}
+use Rattle.replica.specs.declared.Replica.{Replica}
+use Rattle.replica.specs.declared.Stepped.{Stepped}
+use Rattle.script.specs.Text.{decimal, listed}
+
+-- "the line number, a space and `bad`"
+unfoldable pub badLine : ℕ → List ℕ
+badLine number = decimal number ++ (32 ∷ 98 ∷ 97 ∷ 100 ∷ 10 ∷ [])
+
+-- "answer (`ok`, `ignored`, or `r` and the number, as `r9`)"
+unfoldable pub answerWord : Answer → List ℕ
+answerWord Done = 111 ∷ 107 ∷ []
+answerWord Ignored = 105 ∷ 103 ∷ 110 ∷ 111 ∷ 114 ∷ 101 ∷ 100 ∷ []
+answerWord (Refused number) = 114 ∷ decimal number
+
+-- "line, box, answer"
+unfoldable pub headWords : ℕ → ℕ → Answer → List ℕ
+headWords number who answer = decimal number ++ ((32 ∷ decimal who) ++ (32 ∷ answerWord answer))
+
+-- "period, view, base view, base period", each behind a space
+unfoldable pub counterWords : Replica → List ℕ
+counterWords r = (32 ∷ decimal (r .period)) ++ ((32 ∷ decimal (r .view)) ++ ((32 ∷ decimal (r .«base_view»)) ++ (32 ∷ decimal (r .«base_period»))))
+
+-- "state", behind a space
+unfoldable pub stateWord : Replica → List ℕ
+stateWord r = 32 ∷ listed (take (r .settings .law .n) (r .state))
+
+-- "line number if a frame was sent", behind a space; "`-` stands where there is number frame"
+unfoldable pub sentWord : ℕ → ℕ → List ℕ
+sentWord number size = 32 ∷ cond (eqb size 0) (45 ∷ []) (decimal number)
+
+-- the four values that a command has room for, "p i32 values from 8"
+unfoldable pub commandValues : List ℕ → List ℤ
+commandValues command = valueAt command 2 ∷ valueAt command 3 ∷ valueAt command 4 ∷ valueAt command 5 ∷ []
+
+-- "command", behind a space; "`-` stands where there is no .. command"
+unfoldable pub commandWord : ℕ → ℕ → List ℕ → List ℕ
+commandWord p size command = 32 ∷ cond (eqb size 0) (45 ∷ []) (listed (take p (commandValues command)))
+
+-- the line of a step: its number, the box, what the step gave, and the command area after it
+unfoldable pub stepLine : ℕ → ℕ → Stepped → List ℕ → List ℕ
+stepLine number who s command =
+    headWords number who (s .answer)
+    ++ (counterWords (s .replica)
+    ++ (stateWord (s .replica)
+    ++ (sentWord number (s .frame)
+    ++ (commandWord (s .replica .settings .law .p) (s .command) command ++ (10 ∷ [])))))

@@ -1,0 +1,209 @@
+// One line of the bench played: at most one event at one box, with the frame that it sends and the line that is printed.
+ghost use mathlib.Core.Path.{_≡_};
+ghost use Prim.Native.Nat.{_≤_};
+ghost use lib.ListN.{length};
+ghost use Rattle.replica.specs.Calls.{Gives};
+ghost use Rattle.script.specs.Play.{boxIn, lineIn, playable, roomy, outcomeOf, eventOutcome, Plays, afterLine, Leaves, freshBox, freshBoxes};
+use crate::events::Event;
+use crate::events::event_in;
+use crate::events::row_in;
+use crate::frames::frame_of;
+use crate::frames::keep;
+use crate::frames::was_sent;
+use crate::printing::bad_line;
+use crate::printing::step_line;
+use crate::text::Text;
+use readings::Readings;
+use replica::Replica;
+use replica::Settings;
+use replica::Stepped;
+use scram::Answer;
+
+// What a line leaves: the replicas, box b at place b, and the text that is printed.
+pub struct Turn {
+    pub replicas: [Replica; 10],
+    pub text: Text,
+}
+
+// One event at a replica.
+pub fn step(
+    replica: Replica,
+    event: Event,
+    readings: Readings,
+    arriving: &[u8],
+    frame: &mut [u8],
+    command: &mut [u8],
+) -> Stepped
+    ensures { λ r. ⌜ Gives (replica .settings) (outcomeOf replica event readings (now (arriving .entry)) (length (now (frame .entry))) (length (now (command .entry)))) r (now (frame .entry)) (now (frame .exit)) (now (command .entry)) (now (command .exit)) ⌝ }
+{
+    match event {
+        Event::Tick(_) => replica.tick(readings, frame, command),
+        Event::GiveUp(_) => replica.give_up(frame, command),
+        Event::Deliver(_, _) => replica.arrive(arriving, frame, command),
+        Event::Bad => Stepped {
+            answer: Answer::Ignored,
+            replica,
+            frame: 0,
+            command: 0,
+        },
+    }
+}
+
+// The box that an event is for, 0 where there is none.
+fn box_of(event: Event) -> u8
+    ensures { λ r. ⌜ r ≡ boxIn event ⌝ }
+{
+    match event {
+        Event::Tick(at) => at,
+        Event::GiveUp(at) => at,
+        Event::Deliver(at, _) => at,
+        Event::Bad => 0,
+    }
+}
+
+// The line whose frame is delivered, 0 where none is.
+fn line_of(event: Event) -> u32
+    ensures { λ r. ⌜ r ≡ lineIn event ⌝ }
+{
+    match event {
+        Event::Tick(_) => 0,
+        Event::GiveUp(_) => 0,
+        Event::Deliver(_, f) => f,
+        Event::Bad => 0,
+    }
+}
+
+// Whether a line can be played: it is of the format, and a frame that it delivers was sent before.
+fn is_playable(event: Event, number: u32, lengths: &[usize]) -> bool
+    ensures { λ r. ⌜ r ≡ playable event number (now (lengths .entry)) ⌝ }
+{
+    match event {
+        Event::Tick(_) => true,
+        Event::GiveUp(_) => true,
+        Event::Deliver(_, f) => was_sent(lengths, number, f),
+        Event::Bad => false,
+    }
+}
+
+// Whether there is room for the line's frame, and a place for its box.
+fn has_room(event: Event, number: u32, table: usize, lengths: usize) -> bool
+    ensures { λ r. ⌜ r ≡ roomy event number table lengths ⌝ }
+{
+    if 500 < number {
+        return false;
+    }
+    if 9 < box_of(event) {
+        return false;
+    }
+    if table < 34569 {
+        return false;
+    }
+    501 <= lengths
+}
+
+// What an event leaves: the replica of its box, and the text that is printed.
+struct Played {
+    replica: Replica,
+    text: Text,
+}
+
+// The event of a line that can be played, at the replica of its box.
+fn play_event(
+    replica: Replica,
+    event: Event,
+    readings: Readings,
+    number: u32,
+    table: &mut [u8],
+    lengths: &mut [usize],
+) -> Played
+    requires { ⌜ (lineIn event ≤ 500) × (number ≤ 500) × (34569 ≤ length (now table)) × (501 ≤ length (now lengths)) ⌝ }
+    ensures { λ r. ⌜ Plays (replica .settings) (eventOutcome replica event readings (now (table .entry)) (now (lengths .entry))) (boxIn event) number (now (table .entry)) (now (lengths .entry)) r (now (table .exit)) (now (lengths .exit)) ⌝ }
+{
+    let f = line_of(event);
+    let size = lengths[f as usize];
+    let mut frame = [0u8; 69];
+    let mut command = [0u8; 24];
+    let s = step(
+        replica,
+        event,
+        readings,
+        frame_of(table, f, size),
+        &mut frame,
+        &mut command,
+    );
+    let sent = s.frame;
+    keep(table, number, &frame, sent);
+    lengths[number as usize] = sent;
+    let next = s.replica;
+    let text = step_line(number, box_of(event), s, &command);
+    Played {
+        replica: next,
+        text,
+    }
+}
+
+// A line played, in a group of so many boxes with m readings.
+pub fn play(
+    replicas: [Replica; 10],
+    boxes: u8,
+    m: u8,
+    number: u32,
+    line: &[u8],
+    table: &mut [u8],
+    lengths: &mut [usize],
+) -> Turn
+    ensures { λ r. ⌜ Leaves (afterLine replicas boxes m number (now (line .entry)) (now (table .entry)) (now (lengths .entry))) r (now (table .exit)) (now (lengths .exit)) ⌝ }
+{
+    let event = event_in(boxes, m, line);
+    if !has_room(event, number, table.len(), lengths.len()) {
+        return Turn {
+            replicas,
+            text: bad_line(number),
+        };
+    }
+    if !is_playable(event, number, lengths) {
+        return Turn {
+            replicas,
+            text: bad_line(number),
+        };
+    }
+    let at = box_of(event) as usize;
+    let readings = row_in(m, line);
+    let played = play_event(replicas[at], event, readings, number, table, lengths);
+    let mut after = replicas;
+    let next = played.replica;
+    after[at] = next;
+    let text = played.text;
+    Turn {
+        replicas: after,
+        text,
+    }
+}
+
+// A fresh replica with this own number.
+fn made(settings: Settings, own: u8) -> Replica
+    ensures { λ r. ⌜ r ≡ freshBox settings own ⌝ }
+{
+    let mut s = settings;
+    s.own = own;
+    let made = Replica::make(s);
+    made.replica
+}
+
+// Fresh replicas, box b at place b; one that refuses every event where there is no such box.
+pub fn fresh(settings: Settings) -> [Replica; 10]
+    ensures { λ r. ⌜ r ≡ freshBoxes settings ⌝ }
+{
+    [
+        made(settings, 0),
+        made(settings, 1),
+        made(settings, 2),
+        made(settings, 3),
+        made(settings, 4),
+        made(settings, 5),
+        made(settings, 6),
+        made(settings, 7),
+        made(settings, 8),
+        made(settings, 9),
+    ]
+}

@@ -1,0 +1,85 @@
+//! What occurred over a run, counted by the generator while it writes.
+
+use std::fmt;
+
+#[derive(Clone, Debug, Default, PartialEq, Eq)]
+pub struct Counts {
+    pub bench_scripts: usize,
+    pub rig_scripts: usize,
+    /// Rig scripts whose first line makes no group.
+    pub spoiled_scripts: usize,
+    pub lines: usize,
+    pub ticks: usize,
+    pub give_ups: usize,
+    pub deliveries: usize,
+    pub proposals_after_estimates: usize,
+    /// Of these, such as took over what a box had accepted in this period.
+    pub open_taken_over: usize,
+    /// Of these, such as took over what a box had accepted in an earlier one.
+    pub older_taken_over: usize,
+    /// Steps that wrote a command.
+    pub decisions: usize,
+    pub decisions_above_view_0: usize,
+    pub decided_periods: usize,
+    /// Decided periods, the period before which nobody decided.
+    pub decided_after_missed: usize,
+    pub doubled: usize,
+    pub late: usize,
+    pub misdirected: usize,
+    pub stopped_boxes: usize,
+    /// Periods that a box sat out and made up for by ticks.
+    pub made_up_ticks: usize,
+    pub malformed: usize,
+    pub ignored: usize,
+    /// By refusal number; place 0 is unused.
+    pub refused: [usize; 13],
+}
+
+impl Counts {
+    /// Counts what a spoiled first line was answered.
+    pub fn refused_first_line(&mut self, output: &[u8]) {
+        match output {
+            [b'r', digit @ b'1'..=b'4', b'\n'] => self.refused[usize::from(digit - b'0')] += 1,
+            _ => self.malformed += 1,
+        }
+    }
+}
+
+impl fmt::Display for Counts {
+    fn fmt(&self, out: &mut fmt::Formatter<'_>) -> fmt::Result {
+        let named = [
+            ("bench scripts", self.bench_scripts),
+            ("rig scripts", self.rig_scripts),
+            ("  with a spoiled first line", self.spoiled_scripts),
+            ("lines", self.lines),
+            ("ticks", self.ticks),
+            ("  to make up for missed periods", self.made_up_ticks),
+            ("give-ups", self.give_ups),
+            ("deliveries", self.deliveries),
+            ("  doubled", self.doubled),
+            ("  late", self.late),
+            ("  misdirected", self.misdirected),
+            ("decisions", self.decisions),
+            ("  in views above 0", self.decisions_above_view_0),
+            ("decided periods", self.decided_periods),
+            ("  after a missed one", self.decided_after_missed),
+            ("proposals after estimates", self.proposals_after_estimates),
+            ("  open proposals taken over", self.open_taken_over),
+            ("  older estimates taken over", self.older_taken_over),
+            ("stopped boxes", self.stopped_boxes),
+            ("malformed lines", self.malformed),
+            ("ignored answers", self.ignored),
+        ];
+        for (name, count) in named {
+            writeln!(out, "{name:<34}{count:>9}")?;
+        }
+        for (number, count) in self.refused.iter().enumerate().skip(1) {
+            writeln!(
+                out,
+                "{:<34}{count:>9}",
+                format!("refused answers r{number}")
+            )?;
+        }
+        Ok(())
+    }
+}

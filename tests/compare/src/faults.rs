@@ -1,0 +1,74 @@
+//! Whether the comparison finds faults planted on purpose, and how soon.
+
+use second::fault::NAMES;
+
+use crate::counts::Counts;
+use crate::run::{library, Programs};
+use crate::{demand3, generator, run};
+
+const MOST_SCRIPTS: usize = 2_000;
+
+/// The number of the first script that shows a fault, by each way to look.
+#[derive(Default)]
+struct Found {
+    by_output: Option<usize>,
+    by_demand3: Option<usize>,
+    /// By demand 3, on scripts written while the faulty replicas run, so that
+    /// the frames which only they send are delivered too.
+    by_own_scripts: Option<usize>,
+}
+
+/// Prints the table; gives whether every fault was found by its output.
+pub fn table(seed: u64, second: impl Fn() -> Result<Programs, String>) -> Result<bool, String> {
+    let (output, demand3, own) = ("outputs differ", "demand 3", "on own scripts");
+    println!("{:<20}{output:>15}{demand3:>15}{own:>17}", "fault");
+    let mut all_found = true;
+    for (name, _) in NAMES {
+        let mut found = look_for(seed, &second()?.with_fault(name))?;
+        found.by_own_scripts = run::own_search(seed, name)?;
+        let shown = |first: Option<usize>| match first {
+            Some(number) => format!("script {number}"),
+            None => "not found".to_string(),
+        };
+        let (output, demand3) = (shown(found.by_output), shown(found.by_demand3));
+        let own = shown(found.by_own_scripts);
+        println!("{name:<20}{output:>15}{demand3:>15}{own:>17}");
+        all_found &= found.by_output.is_some();
+    }
+    Ok(all_found)
+}
+
+fn look_for(seed: u64, faulty: &Programs) -> Result<Found, String> {
+    let mut found = Found::default();
+    for number in 1..=MOST_SCRIPTS {
+        let script = generator::script(seed, number, &mut Counts::default());
+        let output = faulty.run(&script)?;
+        if found.by_output.is_none() && output != library(&script) {
+            found.by_output = Some(number);
+        }
+        if found.by_demand3.is_none() {
+            if let Some(lines) = &script.lines {
+                let checked = demand3::check(&script.group, lines, &output);
+                found.by_demand3 = checked.is_err().then_some(number);
+            }
+        }
+        if found.by_output.is_some() && found.by_demand3.is_some() {
+            break;
+        }
+    }
+    Ok(found)
+}
+
+/// The first script whose output demand 3 refuses, where generator, replicas
+/// and law all have the fault that is planted in this process. A fault of the
+/// law itself is therefore not found in this way.
+pub fn own_search(seed: u64) -> Option<usize> {
+    (1..=MOST_SCRIPTS).find(|&number| {
+        let script = generator::script(seed, number, &mut Counts::default());
+        let check = |lines: &Vec<_>| demand3::check(&script.group, lines, &library(&script));
+        script
+            .lines
+            .as_ref()
+            .is_some_and(|lines| check(lines).is_err())
+    })
+}

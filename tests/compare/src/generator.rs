@@ -1,0 +1,519 @@
+//! The directed generator: periods of several kinds, one after the other,
+//! until the script is full.
+
+use crate::counts::Counts;
+use crate::group::Group;
+use crate::prng::Prng;
+use crate::writer::Writer;
+
+/// "It reads at most 500 lines"
+const MOST_LINES: i32 = 500;
+
+pub struct Script {
+    pub is_rig: bool,
+    pub group: Group,
+    /// None if the first line makes no group.
+    pub lines: Option<Vec<Vec<u8>>>,
+    /// The whole input.
+    pub input: Vec<u8>,
+}
+
+/// Script `number` of a seed.
+pub fn script(seed: u64, number: usize, counts: &mut Counts) -> Script {
+    let prng = &mut Prng::of_script(seed, number);
+    let is_rig = !prng.chance(20);
+    let group = match is_rig {
+        true => Group::random(prng),
+        false => Group::bench(),
+    };
+    if is_rig && prng.chance(6) {
+        return spoiled_script(prng, group, counts);
+    }
+    match is_rig {
+        true => counts.rig_scripts += 1,
+        false => counts.bench_scripts += 1,
+    }
+    let lines = written_lines(prng, group, counts);
+    let first_line = is_rig.then(|| group.first_line());
+    Script {
+        is_rig,
+        group,
+        input: joined(prng, first_line, &lines),
+        lines: Some(lines),
+    }
+}
+
+/// Periods until the script is full; now and then some lines too many.
+fn written_lines(prng: &mut Prng, group: Group, counts: &mut Counts) -> Vec<Vec<u8>> {
+    let too_many = prng.chance(5);
+    let limit = match too_many {
+        true => MOST_LINES,
+        false => prng.between(200, MOST_LINES),
+    };
+    let mut course = Course::new(prng, counts, group, limit as usize);
+    while !course.writer.is_full() {
+        course.period();
+    }
+    let mut lines = course.writer.lines;
+    counts.lines += lines.len();
+    if too_many {
+        // What stands behind line 500 must not be read.
+        lines.extend(vec![b"G 2".to_vec(); 1 + prng.below(3)]);
+    }
+    lines
+}
+
+/// "A last line may lack its line feed"; an empty one may not, or it would be
+/// no line.
+fn joined(prng: &mut Prng, first_line: Option<String>, lines: &[Vec<u8>]) -> Vec<u8> {
+    let mut input = Vec::new();
+    if let Some(first_line) = first_line {
+        input.extend(first_line.into_bytes());
+        input.push(b'\n');
+    }
+    input.extend(lines.join(&b'\n'));
+    if prng.chance(70) || lines.last().is_some_and(Vec::is_empty) {
+        input.push(b'\n');
+    }
+    input
+}
+
+/// A rig script whose first line is refused or malformed; what follows is of
+/// no account.
+fn spoiled_script(prng: &mut Prng, group: Group, counts: &mut Counts) -> Script {
+    counts.rig_scripts += 1;
+    counts.spoiled_scripts += 1;
+    let mut input = group.spoiled_first_line(prng);
+    input.extend(b"\nG 1\nT 1 1\n");
+    Script {
+        is_rig: true,
+        group,
+        lines: None,
+        input,
+    }
+}
+
+/// A script's manner: shares of the kinds of periods and of what goes wrong.
+struct Habits {
+    orderly: usize,
+    lossy: usize,
+    view_change: usize,
+    coordinator_stops: usize,
+    second_lap: usize,
+    chaos: usize,
+    /// Lost frames of a hundred, in lossy periods.
+    loss: usize,
+    /// Of a hundred boxes, those that sit out a period.
+    miss: usize,
+    /// Of a hundred deliveries, those out of the order of sending.
+    disorder: usize,
+    /// Of a hundred periods, those in which a parting of the boxes begins.
+    parting: usize,
+}
+
+impl Habits {
+    fn random(prng: &mut Prng) -> Habits {
+        Habits {
+            orderly: prng.pick(&[0, 1, 3, 10]),
+            lossy: prng.pick(&[0, 1, 3]),
+            view_change: prng.pick(&[0, 1, 3, 6]),
+            coordinator_stops: prng.pick(&[0, 1, 2, 6]),
+            second_lap: prng.pick(&[0, 0, 0, 1, 4]),
+            chaos: prng.pick(&[0, 0, 1, 2]),
+            loss: prng.pick(&[10, 25, 50]),
+            miss: prng.pick(&[0, 0, 5, 15]),
+            disorder: prng.pick(&[0, 10, 40, 100]),
+            parting: prng.pick(&[0, 0, 10, 30]),
+        }
+    }
+}
+
+/// The course of a script.
+struct Course<'a> {
+    writer: Writer<'a>,
+    habits: Habits,
+    /// So many periods the box at each place still stays away.
+    away: Vec<u32>,
+    /// While the boxes are parted: the side of each, and for how long.
+    sides: Vec<bool>,
+    parted: u32,
+}
+
+impl<'a> Course<'a> {
+    fn new(prng: &'a mut Prng, counts: &'a mut Counts, group: Group, limit: usize) -> Self {
+        let habits = Habits::random(prng);
+        let boxes = usize::from(group.boxes);
+        Course {
+            writer: Writer::new(prng, counts, group, limit),
+            habits,
+            away: vec![0; boxes],
+            sides: vec![false; boxes],
+            parted: 0,
+        }
+    }
+
+    fn period(&mut self) {
+        self.pass_time();
+        if self.chance(80) {
+            self.writer.pending.clear();
+        }
+        self.tick_all();
+        match self.kind_of_period() {
+            0 => self.orderly(),
+            1 => self.lossy(),
+            2 => self.view_change(),
+            3 => self.coordinator_stops(),
+            4 => self.second_lap(),
+            _ => self.chaos(),
+        }
+    }
+
+    /// Drawn by the shares of the habits; each kind occurs now and then in
+    /// every script.
+    fn kind_of_period(&mut self) -> usize {
+        let habits = &self.habits;
+        let shares = [
+            habits.orderly,
+            habits.lossy,
+            habits.view_change,
+            habits.coordinator_stops,
+            habits.second_lap,
+            habits.chaos,
+        ];
+        let mut tickets = Vec::new();
+        for (kind, share) in shares.into_iter().enumerate() {
+            tickets.extend(vec![kind; share * 10 + 1]);
+        }
+        self.writer.prng.pick(&tickets)
+    }
+
+    /// Boxes come back, stay away or stop; partings begin and end.
+    fn pass_time(&mut self) {
+        for place in 0..self.away.len() {
+            self.away[place] = self.away[place].saturating_sub(1);
+        }
+        self.parted = self.parted.saturating_sub(1);
+        if self.parted == 0 && self.chance(self.habits.parting) {
+            self.parted = 1 + self.writer.prng.below(4) as u32;
+            for side in &mut self.sides {
+                *side = self.writer.prng.chance(50);
+            }
+        }
+        if self.chance(1) {
+            let place = self.writer.prng.below(self.away.len());
+            self.leave(place);
+        }
+    }
+
+    /// A box stays away for some periods, or for good if a majority remains.
+    fn leave(&mut self, place: usize) {
+        let stopped = &self.writer.stopped;
+        let remain = stopped.iter().filter(|&&stopped| !stopped).count();
+        if remain > self.writer.majority() && !self.writer.stopped[place] && self.chance(25) {
+            self.writer.stopped[place] = true;
+            self.writer.counts.stopped_boxes += 1;
+        } else {
+            self.away[place] = 1 + self.writer.prng.below(4) as u32;
+        }
+    }
+
+    /// The boxes that are there tick; those behind may make up for it.
+    fn tick_all(&mut self) {
+        let due = self.writer.newest_period() + 1;
+        for place in self.writer.places() {
+            if self.is_away(place) || self.chance(self.habits.miss) {
+                continue;
+            }
+            self.writer.tick(place);
+            let makes_up = self.chance(70);
+            while makes_up && self.writer.replicas[place].period < due && !self.writer.is_full() {
+                self.writer.counts.made_up_ticks += 1;
+                self.writer.tick(place);
+            }
+            if self.chance(5) {
+                self.pump_some(2, 0);
+            }
+        }
+    }
+
+    /// Delivers what is on its way, and what that brings about, until
+    /// nothing is left.
+    fn pump(&mut self, loss: usize) {
+        self.pump_some(usize::MAX, loss);
+    }
+
+    /// The same for at most so many frames.
+    fn pump_some(&mut self, most: usize, loss: usize) {
+        for _ in 0..most {
+            if self.writer.is_full() || self.writer.pending.is_empty() {
+                return;
+            }
+            let waiting = self.writer.pending.len();
+            let next = match self.chance(self.habits.disorder) {
+                true => self.writer.prng.below(waiting),
+                false => 0,
+            };
+            let Some((sent, place)) = self.writer.pending.remove(next) else {
+                return;
+            };
+            if !self.is_lost(sent, place, loss) {
+                self.writer.deliver(sent, place);
+            }
+        }
+    }
+
+    fn is_lost(&mut self, sent: usize, place: usize, loss: usize) -> bool {
+        let parted = self.parted > 0 && self.sides[self.writer.sender(sent)] != self.sides[place];
+        // Acks behind the majority are ignored; most are left out, for the
+        // sake of more periods in a script.
+        let needless = self.writer.is_ack(sent) && self.writer.replicas[place].decided;
+        self.is_away(place) || parted || self.chance(loss) || needless && self.chance(70)
+    }
+
+    /// All frames arrive; boxes left undecided go on to a common view.
+    fn orderly(&mut self) {
+        self.pump(0);
+        while self.chance(60) {
+            self.converge(0);
+        }
+    }
+
+    fn lossy(&mut self) {
+        self.pump(self.habits.loss);
+        if self.chance(60) {
+            self.converge(self.habits.loss / 2);
+        }
+    }
+
+    /// Some frames arrive, then the boxes give up.
+    fn view_change(&mut self) {
+        let some = self.writer.prng.below(2 * self.away.len());
+        self.pump_some(some, 0);
+        if self.chance(50) {
+            self.writer.pending.clear();
+        }
+        self.give_up_somehow();
+    }
+
+    fn give_up_somehow(&mut self) {
+        match self.chance(60) {
+            true => self.converge(0),
+            false => self.give_up_rounds(),
+        }
+    }
+
+    /// The boxes of the newest period that are there and have not decided.
+    fn undecided(&mut self) -> Vec<usize> {
+        let newest = self.writer.newest_period();
+        let mut places = self.writer.places();
+        places.retain(|&place| {
+            let replica = &self.writer.replicas[place];
+            !self.is_away(place) && replica.period == newest && !replica.decided
+        });
+        places
+    }
+
+    /// Undecided boxes give up until they are in one view, the coordinator of
+    /// which is among them; then its frames arrive.
+    fn converge(&mut self, loss: usize) {
+        let places = self.undecided();
+        if places.len() >= self.writer.majority() {
+            self.converge_among(&places);
+            self.pump(loss);
+        }
+    }
+
+    /// Ends with only the frames of the common view on their way.
+    fn converge_among(&mut self, places: &[usize]) {
+        let view_at = |place: &usize| self.writer.replicas[*place].view;
+        let Some(top) = places.iter().map(view_at).max() else {
+            return;
+        };
+        let mut common = top + 1;
+        while !places.contains(&self.writer.coordinator_of(common)) {
+            common += 1;
+        }
+        for &place in places {
+            self.give_up_until(place, common);
+        }
+        let writer = &mut self.writer;
+        let mut pending = std::mem::take(&mut writer.pending);
+        pending.retain(|&(sent, _)| writer.view_of(sent) >= common);
+        writer.pending = pending;
+    }
+
+    /// A normal coordinator's give-up is ignored, so it stays where it is.
+    fn give_up_until(&mut self, place: usize, view: u32) {
+        while self.writer.replicas[place].view < view && !self.writer.is_full() {
+            let before = self.writer.replicas[place].view;
+            self.writer.give_up(place);
+            if self.writer.replicas[place].view == before {
+                return;
+            }
+        }
+    }
+
+    fn give_up_rounds(&mut self) {
+        let rounds = 1 + self.writer.prng.below(3);
+        for _ in 0..rounds {
+            let (willing, loss) = self
+                .writer
+                .prng
+                .pick(&[(100, 0), (90, 5), (60, 0), (80, 25)]);
+            self.crowd_gives_up(willing);
+            match self.chance(25) {
+                // A proposal that only some hear of.
+                true => {
+                    let some = self.writer.prng.below(2 * self.away.len());
+                    self.pump_some(some, loss);
+                    self.writer.pending.clear();
+                }
+                false => self.pump(loss),
+            }
+        }
+    }
+
+    /// Boxes give up that have not decided, and few others.
+    fn crowd_gives_up(&mut self, willing: usize) {
+        let one_side = self.parted > 0 && self.chance(50);
+        for place in self.writer.places() {
+            let replica = &self.writer.replicas[place];
+            let idle = replica.decided || self.writer.coordinator_seen_by(place) == place;
+            let share = if idle { willing / 10 } else { willing };
+            let apart = one_side && self.sides[place];
+            if !self.is_away(place) && !apart && self.chance(share) {
+                self.writer.give_up(place);
+                if self.chance(5) {
+                    self.writer.give_up(place);
+                }
+            }
+        }
+    }
+
+    /// The coordinator's proposal reaches some boxes, then it is gone; the
+    /// others go on without it.
+    fn coordinator_stops(&mut self) {
+        let some = 1 + self.writer.prng.below(self.writer.majority());
+        self.pump_some(some, 0);
+        let seen_by = self.writer.prng.below(self.away.len());
+        let gone = self.writer.coordinator_seen_by(seen_by);
+        self.leave(gone);
+        self.writer.pending.clear();
+        self.give_up_somehow();
+    }
+
+    /// A coordinator is short of a majority of Acks; the boxes that did not
+    /// hear of its proposal decide on another in a later view, all but one;
+    /// that one's Estimate then comes to the old coordinator, for the next
+    /// view that it has. What it heard before must not count any more.
+    fn second_lap(&mut self) {
+        let places = self.undecided();
+        let Some(&seen_by) = places.first() else {
+            return;
+        };
+        let old = self.writer.coordinator_seen_by(seen_by);
+        let mut others = places;
+        others.retain(|&place| place != old);
+        let few = self.writer.majority() - 2;
+        if others.len() <= few {
+            return;
+        }
+        let (hearing, unaware) = others.split_at(few);
+        self.pump_to(&[hearing, &[old]].concat(), 0);
+        self.converge_among(unaware);
+        let apart = self.writer.prng.pick(unaware);
+        others.retain(|&place| place != apart);
+        self.pump_to(&others, 70);
+        self.writer.pending.clear();
+        self.start_lap(apart, old);
+        self.pump(0);
+        if self.chance(50) {
+            self.converge(0);
+        }
+    }
+
+    /// A box gives up until this coordinator's next view.
+    fn start_lap(&mut self, place: usize, coordinator: usize) {
+        let views = self.writer.replicas.iter().map(|replica| replica.view);
+        let mut view = views.max().unwrap_or(0) + 1;
+        while self.writer.coordinator_of(view) != coordinator {
+            view += 1;
+        }
+        self.give_up_until(place, view);
+    }
+
+    /// Delivers frames on their way to these boxes; the others are lost, and
+    /// so are some Decides, so that boxes stay undecided.
+    fn pump_to(&mut self, places: &[usize], loss_of_decides: usize) {
+        while let Some((sent, place)) = self.writer.pending.pop_front() {
+            let lost = self.writer.is_decide(sent) && self.chance(loss_of_decides);
+            if places.contains(&place) && !lost && !self.is_lost(sent, place, 0) {
+                self.writer.deliver(sent, place);
+            }
+        }
+    }
+
+    /// Anything at any box that is there.
+    fn chaos(&mut self) {
+        let events = 5 + self.writer.prng.below(20);
+        for _ in 0..events {
+            let place = self.writer.prng.below(self.away.len());
+            match self.writer.prng.below(10) {
+                0 if !self.is_away(place) => self.writer.tick(place),
+                1 | 2 if !self.is_away(place) => self.writer.give_up(place),
+                3 | 4 => self.writer.random_delivery(),
+                _ => self.pump_some(1, 10),
+            }
+        }
+    }
+
+    fn is_away(&self, place: usize) -> bool {
+        self.away[place] > 0 || self.writer.stopped[place]
+    }
+
+    fn chance(&mut self, percent: usize) -> bool {
+        self.writer.prng.chance(percent)
+    }
+}
+
+#[cfg(test)]
+mod tests {
+    use super::*;
+
+    /// A change of the generator must not lose a case unseen.
+    #[test]
+    fn every_case_occurs() {
+        let mut counts = Counts::default();
+        for number in 1..=300 {
+            script(1, number, &mut counts);
+        }
+        let cases = [
+            counts.bench_scripts,
+            counts.rig_scripts,
+            counts.spoiled_scripts,
+            counts.made_up_ticks,
+            counts.give_ups,
+            counts.doubled,
+            counts.late,
+            counts.misdirected,
+            counts.decisions - counts.decisions_above_view_0,
+            counts.decisions_above_view_0,
+            counts.decided_after_missed,
+            counts.open_taken_over,
+            counts.older_taken_over,
+            counts.stopped_boxes,
+            counts.malformed,
+            counts.ignored,
+            counts.refused[9],
+            counts.refused[10],
+        ];
+        assert!(cases.iter().all(|&count| count >= 10), "{counts}");
+    }
+
+    #[test]
+    fn scripts_are_made_again_from_seed_and_number() {
+        let input = |seed, number| script(seed, number, &mut Counts::default()).input;
+        assert_eq!(input(4, 9), input(4, 9));
+        assert_ne!(input(4, 9), input(4, 10));
+    }
+}

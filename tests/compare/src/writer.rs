@@ -1,0 +1,407 @@
+//! Writes a script line by line and runs each line on the second
+//! implementation's replicas at once, so that it knows what was sent, by whom
+//! and what came of it.
+
+use std::collections::VecDeque;
+
+use second::frame::{self, Frame, ACK, COMMAND_AREA, DECIDE, ESTIMATE, FRAME_AREA};
+use second::law::Readings;
+use second::replica::{coordinator, majority, Answer, Areas, Estimate, Heard, Replica, Step};
+
+use crate::counts::Counts;
+use crate::group::Group;
+use crate::malformed;
+use crate::prng::Prng;
+
+/// How often, of a hundred lines, something out of order follows.
+#[derive(Clone, Copy, Default)]
+pub struct Strays {
+    pub malformed: usize,
+    pub doubled: usize,
+    pub late: usize,
+    pub misdirected: usize,
+}
+
+/// How a script's readings are drawn.
+#[derive(Clone, Copy)]
+pub struct Rows {
+    /// So many different rows a period are handed out, which bounds the
+    /// search of the demand-3 check.
+    pub variety: usize,
+    pub largest: i32,
+    pub absent: usize,
+}
+
+struct Sent {
+    line: usize,
+    frame: Frame,
+    bytes: Vec<u8>,
+    /// The places that it was delivered to.
+    delivered: Vec<usize>,
+}
+
+/// The boxes of a script stand at places from 0; their numbers are one more.
+pub struct Writer<'a> {
+    pub prng: &'a mut Prng,
+    pub counts: &'a mut Counts,
+    pub replicas: Vec<Replica>,
+    pub lines: Vec<Vec<u8>>,
+    /// Frames on their way: place in `sent` and the place they go to.
+    pub pending: VecDeque<(usize, usize)>,
+    /// "A stopped box has no further entry."
+    pub stopped: Vec<bool>,
+    group: Group,
+    limit: usize,
+    strays: Strays,
+    rows: Rows,
+    /// The rows made up to now, by period.
+    handed: Vec<Vec<Readings>>,
+    sent: Vec<Sent>,
+    unsent: Vec<usize>,
+    decided: Vec<u32>,
+}
+
+impl<'a> Writer<'a> {
+    pub fn new(prng: &'a mut Prng, counts: &'a mut Counts, group: Group, limit: usize) -> Self {
+        let replicas = (1..=group.boxes)
+            .map(|own| Replica::new(group.boxes, own, group.settings).expect("a good group"))
+            .collect();
+        let rare = |prng: &mut Prng| prng.pick(&[0, 1, 2, 4]);
+        let strays = Strays {
+            malformed: rare(prng),
+            doubled: rare(prng) * 2,
+            late: rare(prng) * 2,
+            misdirected: rare(prng),
+        };
+        let rows = Rows {
+            variety: prng.pick(&[2, 2, 3, 3, 4, group.boxes.into()]),
+            largest: prng.pick(&[200, 100_000, 100_000, 100_000, i32::MAX]),
+            absent: prng.pick(&[0, 10, 30]),
+        };
+        Writer {
+            prng,
+            counts,
+            replicas,
+            lines: Vec::new(),
+            pending: VecDeque::new(),
+            stopped: vec![false; group.boxes.into()],
+            group,
+            limit,
+            strays,
+            rows,
+            handed: Vec::new(),
+            sent: Vec::new(),
+            unsent: Vec::new(),
+            decided: Vec::new(),
+        }
+    }
+
+    pub fn is_full(&self) -> bool {
+        self.lines.len() >= self.limit
+    }
+
+    /// The places of all boxes, in random order.
+    pub fn places(&mut self) -> Vec<usize> {
+        let mut places: Vec<usize> = (0..self.replicas.len()).collect();
+        self.prng.shuffle(&mut places);
+        places
+    }
+
+    pub fn newest_period(&self) -> u32 {
+        self.replicas.iter().map(|r| r.period).max().unwrap_or(0)
+    }
+
+    pub fn majority(&self) -> usize {
+        majority(self.group.boxes).into()
+    }
+
+    /// The place of a view's coordinator.
+    pub fn coordinator_of(&self, view: u32) -> usize {
+        usize::from(coordinator(self.group.boxes, view)) - 1
+    }
+
+    /// The coordinator's place in the view of the box at this place.
+    pub fn coordinator_seen_by(&self, place: usize) -> usize {
+        self.coordinator_of(self.replicas[place].view)
+    }
+
+    pub fn sender(&self, sent: usize) -> usize {
+        usize::from(self.sent[sent].frame.sender) - 1
+    }
+
+    pub fn view_of(&self, sent: usize) -> u32 {
+        self.sent[sent].frame.view
+    }
+
+    pub fn is_ack(&self, sent: usize) -> bool {
+        self.sent[sent].frame.kind == ACK
+    }
+
+    pub fn is_decide(&self, sent: usize) -> bool {
+        self.sent[sent].frame.kind == DECIDE
+    }
+
+    // The lines of a script. Each does nothing once the script is full,
+    // and nothing at a stopped box.
+
+    pub fn tick(&mut self, place: usize) {
+        if self.is_full() || self.stopped[place] {
+            return;
+        }
+        let readings = self.row_for(self.replicas[place].period);
+        self.counts.ticks += 1;
+        let mut text = format!("T {}", place + 1);
+        for j in 0..usize::from(self.group.settings.m) {
+            text += &match readings.is_present(j) {
+                true => format!(" {}", readings.values[j]),
+                false => " -".to_string(),
+            };
+        }
+        self.run(place, text, |replica, areas| replica.tick(&readings, areas));
+        self.stray();
+    }
+
+    pub fn give_up(&mut self, place: usize) {
+        if self.is_full() || self.stopped[place] {
+            return;
+        }
+        self.counts.give_ups += 1;
+        self.run(place, format!("G {}", place + 1), Replica::give_up);
+        self.stray();
+    }
+
+    pub fn deliver(&mut self, sent: usize, place: usize) {
+        self.deliver_alone(sent, place);
+        self.stray();
+    }
+
+    /// A delivery that no stray line follows, for strays themselves.
+    fn deliver_alone(&mut self, sent: usize, place: usize) {
+        if self.is_full() || self.stopped[place] {
+            return;
+        }
+        self.count_delivery(sent, place);
+        let best = self.best_with(sent, place);
+        self.sent[sent].delivered.push(place);
+        let bytes = self.sent[sent].bytes.clone();
+        let text = format!("D {} {}", place + 1, self.sent[sent].line);
+        let step = self.run(place, text, |replica, areas| replica.arrive(&bytes, areas));
+        if self.sent[sent].frame.kind == ESTIMATE && step.frame_length > 0 {
+            self.count_proposal(place, &best);
+        }
+    }
+
+    fn malformed(&mut self) {
+        if self.is_full() {
+            return;
+        }
+        let place = malformed::Place {
+            boxes: self.group.boxes,
+            readings: self.group.settings.m,
+            line: self.lines.len() + 1,
+            unsent: &self.unsent,
+        };
+        let line = malformed::line(self.prng, &place);
+        self.counts.malformed += 1;
+        self.lines.push(line);
+        self.unsent.push(self.lines.len());
+    }
+
+    /// Writes the line of an event and runs it.
+    fn run(
+        &mut self,
+        place: usize,
+        text: String,
+        event: impl FnOnce(Replica, Areas) -> (Replica, Step),
+    ) -> Step {
+        let (mut frame, mut command) = ([0; FRAME_AREA], [0; COMMAND_AREA]);
+        let areas = Areas {
+            frame: &mut frame,
+            command: &mut command,
+        };
+        let (replica, step) = event(self.replicas[place], areas);
+        self.replicas[place] = replica;
+        self.lines.push(text.into_bytes());
+        self.count_step(place, &step);
+        match step.frame_length {
+            0 => self.unsent.push(self.lines.len()),
+            length => self.send(&frame[..length]),
+        }
+        step
+    }
+
+    /// Keeps a sent frame and puts it on its way to those it is meant for.
+    fn send(&mut self, bytes: &[u8]) {
+        let settings = &self.group.settings;
+        let frame = frame::read(settings.n, settings.m, bytes).expect("a replica's own frame");
+        self.sent.push(Sent {
+            line: self.lines.len(),
+            frame,
+            bytes: bytes.to_vec(),
+            delivered: Vec::new(),
+        });
+        let sent = self.sent.len() - 1;
+        for place in self.places() {
+            if self.is_meant_for(sent, place) {
+                self.pending.push_back((sent, place));
+            }
+        }
+    }
+
+    /// Propose and Decide go "to all others", Ack and Estimate to the
+    /// coordinator of their view.
+    fn is_meant_for(&self, sent: usize, place: usize) -> bool {
+        let frame = &self.sent[sent].frame;
+        let others = place != self.sender(sent);
+        match frame.kind {
+            ACK | ESTIMATE => others && place == self.coordinator_of(frame.view),
+            _ => others,
+        }
+    }
+
+    /// One of the rows made for the period after this one.
+    fn row_for(&mut self, period: u32) -> Readings {
+        let place = period as usize;
+        while self.handed.len() <= place {
+            let rows = (0..self.rows.variety).map(|_| self.new_row()).collect();
+            self.handed.push(rows);
+        }
+        self.prng.pick(&self.handed[place])
+    }
+
+    fn new_row(&mut self) -> Readings {
+        let mut row = Readings::default();
+        for j in 0..usize::from(self.group.settings.m) {
+            if self.prng.chance(self.rows.absent) {
+                continue;
+            }
+            row.marks |= 1 << j;
+            row.values[j] = match self.prng.below(50) {
+                0 => self.prng.pick(&[i32::MIN, i32::MAX, 0, -1]),
+                _ => self.prng.between(-self.rows.largest, self.rows.largest),
+            };
+        }
+        row
+    }
+
+    // Lines out of order.
+
+    /// Now and then, one line more that is out of order.
+    fn stray(&mut self) {
+        let strays = self.strays;
+        if self.prng.chance(strays.malformed) {
+            self.malformed();
+        }
+        if self.prng.chance(strays.doubled) {
+            self.stray_delivery(|writer, sent, place| {
+                writer.sent[sent].delivered.contains(&place) && !writer.is_late(sent, place)
+            });
+        }
+        if self.prng.chance(strays.late) {
+            self.stray_delivery(|writer, sent, place| {
+                writer.is_late(sent, place) && writer.is_meant_for(sent, place)
+            });
+        }
+        if self.prng.chance(strays.misdirected) {
+            self.stray_delivery(|writer, sent, place| !writer.is_meant_for(sent, place));
+        }
+    }
+
+    /// Delivers a frame of the wanted sort, if some tries find one. Half of
+    /// the tries look at the newest frames alone, which matter most.
+    fn stray_delivery(&mut self, wanted: impl Fn(&Self, usize, usize) -> bool) {
+        for _ in 0..30 {
+            if self.sent.is_empty() {
+                return;
+            }
+            let newest = match self.prng.chance(50) {
+                true => self.sent.len().min(12),
+                false => self.sent.len(),
+            };
+            let sent = self.sent.len() - 1 - self.prng.below(newest);
+            let place = self.prng.below(self.replicas.len());
+            if !self.stopped[place] && wanted(self, sent, place) {
+                return self.deliver_alone(sent, place);
+            }
+        }
+    }
+
+    /// A random frame to a random box.
+    pub fn random_delivery(&mut self) {
+        self.stray_delivery(|_, _, _| true);
+    }
+
+    /// Of an earlier period than the box is in, or of an earlier view in it.
+    fn is_late(&self, sent: usize, place: usize) -> bool {
+        let (frame, replica) = (&self.sent[sent].frame, &self.replicas[place]);
+        (frame.period, frame.view) < (replica.period, replica.view)
+    }
+
+    // The counts.
+
+    fn count_delivery(&mut self, sent: usize, place: usize) {
+        self.counts.deliveries += 1;
+        self.counts.doubled += usize::from(self.sent[sent].delivered.contains(&place));
+        self.counts.late += usize::from(self.is_late(sent, place));
+        self.counts.misdirected += usize::from(!self.is_meant_for(sent, place));
+    }
+
+    fn count_step(&mut self, place: usize, step: &Step) {
+        match step.answer {
+            Answer::Ok => {}
+            Answer::Ignored => self.counts.ignored += 1,
+            Answer::Refused(refusal) => self.counts.refused[usize::from(refusal.number())] += 1,
+        }
+        if step.command_length == 0 {
+            return;
+        }
+        let replica = &self.replicas[place];
+        self.counts.decisions += 1;
+        self.counts.decisions_above_view_0 += usize::from(replica.view > 0);
+        if !self.decided.contains(&replica.period) {
+            let missed = replica.period > 1 && !self.decided.contains(&(replica.period - 1));
+            self.counts.decided_periods += 1;
+            self.counts.decided_after_missed += usize::from(missed);
+            self.decided.push(replica.period);
+        }
+    }
+
+    /// The best estimate that the box at this place has, should it take in
+    /// this frame as an Estimate.
+    fn best_with(&self, sent: usize, place: usize) -> Heard {
+        let (frame, replica) = (&self.sent[sent].frame, &self.replicas[place]);
+        let own = Heard {
+            from: replica.own,
+            base_view: replica.base_view,
+            estimate: replica.estimate,
+        };
+        let arriving = Heard {
+            from: frame.sender,
+            base_view: frame.base_view,
+            estimate: Estimate {
+                state: frame.state,
+                readings: frame.readings,
+                base_period: frame.base_period,
+            },
+        };
+        let kept = match replica.best {
+            Some(best) if frame.view == replica.view => best,
+            _ => own,
+        };
+        if arriving.beats(&kept) {
+            arriving
+        } else {
+            kept
+        }
+    }
+
+    fn count_proposal(&mut self, place: usize, best: &Heard) {
+        let counts = &mut self.counts;
+        counts.proposals_after_estimates += 1;
+        if best.estimate.base_period == self.replicas[place].period {
+            counts.open_taken_over += 1;
+        } else if usize::from(best.from) != place + 1 && best.estimate.base_period > 0 {
+            counts.older_taken_over += 1;
+        }
+    }
+}

@@ -1,11 +1,10 @@
 -- The cases P1 to P10 of document 01, "Cases": one table, and one theorem over its rows, about the definitions that the contracts cite.
 use Prim.Native.Nat.{ℕ}
 use mathlib.Core.Path.{_≡_, refl}
-use mathlib.Core.Bool.{Bool, true, false, cond}
+use mathlib.Core.Bool.{Bool, true, false}
 use mathlib.Core.List.{List, [], _∷_, map}
 use lib.ListN.{replicate}
 use lib.IntN.{ℤ, pos}
-use Rattle.readings.specs.declared.Readings.{Readings}
 use Rattle.readings.specs.Places.{filled}
 use Rattle.law.specs.Fixed.{minus, divided, sum, limited, clamp}
 use Rattle.law.specs.Settings.{sizesInRange, every, inRange, tableInRange, coefficientsInRange, limitsInOrder, refusal}
@@ -79,5 +78,6 @@ cases =
 
 -- every row holds
 pub cases-hold : map (λ (c : Case). c .gives) cases ≡ map (λ (c : Case). c .says) cases
-unfolding updated refusal sizesInRange coefficientsInRange tableInRange every inRange limitsInOrder filled next e sum divided limited clamp majority coordinator frameBytes header littleEndian better beats pick
+unfolding updated refusal sizesInRange coefficientsInRange tableInRange every inRange limitsInOrder filled next e sum divided
+    limited clamp majority coordinator frameBytes header littleEndian better beats pick
 cases-hold = refl

@@ -8,12 +8,12 @@ use lib.ListN.{length, getD, take, drop, length-drop}
 use lib.Seq.{take-add, take-all, drop-drop}
 use lib.IntN.{ℤ, pos}
 use Rattle.readings.specs.declared.Readings.{Readings}
-use Rattle.readings.specs.Readings.{strayMark}
+use Rattle.readings.specs.Readings.{noReadings, strayMark}
 use Rattle.frame.specs.Sizes.{sizesOk}
 use Rattle.frame.specs.Bytes.{AllBytes, littleEndian, part, numberAt, valuesBytes, valueAt}
 use Rattle.frame.specs.Marks.{marksByte, marksBelow, absentZero}
 use Rattle.frame.specs.Format.{isAck, partCount, header, pairs, frameBytes}
-use Rattle.frame.specs.Fields.{noState, noReadings}
+use Rattle.frame.specs.Fields.{noState}
 use Rattle.frame.specs.Reading.{kindIn, statePart, stateIn, readingsPart, marksAt, readingsIn, readingsOk, headerOk, pairsOk, partsOk, isFrame, headed, fieldsIn}
 use Rattle.frame.specs.Writing.{wellFormed}
 use Rattle.frame.proofs.Booleans.{both}

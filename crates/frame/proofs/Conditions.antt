@@ -7,7 +7,7 @@ use native.Mathlib.Omega.{arith}
 use lib.ListN.{length, getD}
 use lib.Dec.{eqb, leb}
 use borrow.Author.Tests.{eq-eqb, ne-eqb, eqb-true, leb-true}
-use Rattle.frame.specs.Sizes.{sizesOk, commandsOk}
+use Rattle.frame.specs.Sizes.{sizesOk}
 use Rattle.frame.specs.Bytes.{numberAt}
 use Rattle.frame.specs.Format.{isAck, partCount, frameLength}
 use Rattle.frame.specs.Reading.{kindIn, lengthOk, kindOk, partCountOk, byteThreeOk, pairsOk, headerOk}
@@ -26,10 +26,6 @@ sizes n m e =
     let q = both (leb n 6) _ (p .1) in
     let r = both (leb 1 m) _ (q .1) in
     record { n-low = leb-true 1 n (p .0); n-high = leb-true n 6 (q .0); m-low = leb-true 1 m (r .0); m-high = leb-true m 4 (r .1) }
-
-pub commands : (p : ℕ) → commandsOk p ≡ true → p ≤ 4
-unfolding commandsOk
-commands p e = leb-true p 4 (both (leb 1 p) (leb p 4) e .1)
 
 -- ---- the header
 

@@ -1,12 +1,11 @@
--- Further laws of `filled`: the places in use as a list of their own, and places that are filled again. Assumes nothing.
+-- Further laws of `filled`: the places in use as a list of their own, and blanks lent in part. Assumes nothing.
 use mathlib.Core.Path.{_≡_, refl, ap}
 use mathlib.Core.List.{List, _∷_, _++_}
 use Prim.Native.Nat.{ℕ, zero, suc, _-_, _≤_}
 use native.Mathlib.Omega.{arith}
 use native.Mathlib.Nat.{sub-zero, suc-sub-suc, zero-sub}
-use lib.ListN.{getD, take, drop, replicate}
+use lib.ListN.{take, drop, replicate}
 use Rattle.readings.specs.Places.{filled}
-use Rattle.readings.proofs.Places.{filled-at, filled-same}
 
 module _ {ℓ} {A : Type ℓ} (blank : A) where
   -- the places in use, then the others
@@ -33,14 +32,3 @@ module _ {ℓ} {A : Type ℓ} (blank : A) where
   drop-blanks zero width = rw sub-zero
   drop-blanks (suc n) zero = rw zero-sub
   drop-blanks (suc n) (suc width) = rw suc-sub-suc (drop-blanks n width)
-
-  -- blanks, filled from blanks
-  pub filled-blanks : (width n : ℕ) → filled blank width n (λ i. getD (replicate width blank) i blank) ≡ replicate width blank
-  unfolding filled
-  filled-blanks zero n = refl
-  filled-blanks (suc width) zero = refl
-  filled-blanks (suc width) (suc n) = ap (λ (t : List A). blank ∷ t) (filled-blanks width n)
-
-  -- filled places, filled again
-  pub filled-again : (width n : ℕ) (f : ℕ → A) → filled blank width n (λ i. getD (filled blank width n f) i blank) ≡ filled blank width n f
-  filled-again width n f = filled-same blank width n _ f (λ i l w. filled-at blank width n i f l w)

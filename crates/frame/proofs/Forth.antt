@@ -11,12 +11,12 @@ use borrow.Author.Tests.{not-true}
 use Rattle.readings.specs.declared.Readings.{Readings}
 use Rattle.readings.specs.Places.{entry}
 use Rattle.readings.proofs.Places.{filled-same}
-use Rattle.readings.specs.Readings.{present, value, normalised, strayMark}
+use Rattle.readings.specs.Readings.{noReadings, present, value, normalised, strayMark}
 use Rattle.frame.specs.Sizes.{sizesOk}
 use Rattle.frame.specs.Bytes.{littleEndian, spelled, part, numberAt, valuesBytes, valueAt}
 use Rattle.frame.specs.Marks.{marksByte, absentZero}
 use Rattle.frame.specs.Format.{isAck, partCount, header, pairs, frameBytes, frameLength}
-use Rattle.frame.specs.Fields.{AllI32, Typed, noState, noReadings, withParts, firstStates, carried}
+use Rattle.frame.specs.Fields.{AllI32, Typed, noState, withParts, firstStates, carried}
 use Rattle.frame.specs.Reading.{kindIn, kindOk, statePart, stateIn, readingsPart, readingsIn, marksAt, readingsOk, headerOk, pairsOk, partsOk, isFrame, headed, fieldsIn, ReadAs}
 use Rattle.frame.specs.Writing.{wellFormed}
 use Rattle.frame.specs.declared.Frame.{Frame}
@@ -79,7 +79,6 @@ module _ (f : Frame) (r : List ℕ) where
 -- ---- the parts
 
 values-forth : (k : ℕ) (vs : List ℤ) → k ≤ length vs → AllI32 vs → (j : ℕ) → j < k → valueAt (valuesBytes (take k vs)) j ≡ entry vs j
-unfolding AllI32
 values-forth k vs h s j l =
     let same = getD-take k vs j (pos 0) l in
     value-forth (take k vs) j (rw (length-take-le k vs h) l) (rw same (s j)) ∙ same
@@ -94,7 +93,8 @@ module _ (m : ℕ) (y : Readings) (four-marks : length (y .present) ≡ 4) (good
   unfolding readingsIn normalised
   readings-forth h s =
       let marks = marks-forth y four-marks ∙ sym (marks-below m y four-marks (good .clean)) in
-      let values = filled-same (pos 0) 4 m (valueAt (valuesBytes (take m (y .values)))) (value y) (λ j l w. values-forth m (y .values) h s j l ∙ sym (value-as-given m y (good .absent) j l)) in
+      let values = filled-same (pos 0) 4 m (valueAt (valuesBytes (take m (y .values)))) (value y)
+      (λ j l w. values-forth m (y .values) h s j l ∙ sym (value-as-given m y (good .absent) j l)) in
       λ i. record { present = marks i; values = values i }
 
   readings-good : 1 ≤ m → m ≤ 4 → readingsOk m (marksByte y) (normalised m y) ≡ true

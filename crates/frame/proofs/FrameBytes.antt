@@ -1,21 +1,17 @@
--- The bytes of a frame and of a command: their pieces, their length, and that they are bytes. Assumes nothing.
+-- The bytes of a frame: their pieces and their length. Assumes nothing.
 use mathlib.Core.Path.{_≡_, refl, ap, _∙_}
 use mathlib.Core.Bool.{Bool, true, false, cond}
 use mathlib.Core.List.{List, [], _∷_, _++_, append-assoc}
-use Prim.Native.Nat.{ℕ, _+_, _*_, _≤_, _<_}
+use Prim.Native.Nat.{ℕ, _+_, _*_, _≤_}
 use native.Mathlib.Omega.{arith}
 use lib.ListN.{length, take, length-append}
 use lib.IntN.{ℤ}
 use Rattle.readings.specs.declared.Readings.{Readings}
-use Rattle.readings.specs.Readings.{present}
-use Rattle.frame.specs.Bytes.{AllBytes, littleEndian, valuesBytes}
+use Rattle.frame.specs.Bytes.{littleEndian, valuesBytes}
 use Rattle.frame.specs.Marks.{marksByte}
-use Rattle.frame.specs.Format.{isAck, partCount, header, pairs, frameBytes, frameLength}
-use Rattle.frame.specs.Command.{commandBytes}
+use Rattle.frame.specs.Format.{isAck, header, pairs, frameBytes, frameLength}
 use Rattle.frame.specs.declared.Frame.{Frame}
-use Rattle.frame.proofs.Numbers.{bytes-none, bytes-cons, bytes-append, bytes-littleEndian, length-littleEndian}
-use Rattle.frame.proofs.ValueLists.{length-first, bytes-values}
-use Rattle.frame.proofs.PresentMarks.{bit-le}
+use Rattle.frame.proofs.ValueLists.{length-first}
 
 -- ---- the pieces
 
@@ -60,41 +56,3 @@ length-most-by n m false hn hm = omega arith
 
 pub length-most : (n m kind : ℕ) → n ≤ 6 → m ≤ 4 → frameLength n m kind ≤ 69
 length-most n m kind hn hm = length-most-by n m (isAck kind) hn hm
-
-pub length-command : (p period : ℕ) (values : List ℤ) → p ≤ length values → length (commandBytes p period values) ≡ 8 + 4 * p
-unfolding commandBytes
-length-command p period values h = simp (length-append, length-littleEndian, length-first p values h) (omega arith)
-
--- ---- they are bytes
-
-part-count-byte : (kind : ℕ) → partCount kind < 256
-part-count-byte kind = by (isAck kind)
-  where
-    by : (t : Bool) → cond t 0 2 < 256
-    by true = omega arith
-    by false = omega arith
-
-marks-byte : (y : Readings) → marksByte y < 256
-unfolding marksByte
-marks-byte y = omega (arith, bit-le (present y 0), bit-le (present y 1), bit-le (present y 2), bit-le (present y 3))
-
-bytes-header : (f : Frame) → f .kind < 256 → f .sender < 256 → AllBytes (header f)
-unfolding header
-bytes-header f hk hs =
-    let four = bytes-cons (f .kind) _ hk (bytes-cons (f .sender) _ hs (bytes-cons (partCount (f .kind)) _ (part-count-byte (f .kind)) (bytes-cons 0 [] (omega arith) bytes-none))) in
-    bytes-append _ _ (bytes-append _ _ (bytes-append _ _ (bytes-append _ _ four (bytes-littleEndian 4 (f .period))) (bytes-littleEndian 4 (f .view))) (bytes-littleEndian 4 (f .«base_view»))) (bytes-littleEndian 4 (f .«base_period»))
-
-bytes-pairs : (n m : ℕ) → AllBytes (pairs n m)
-unfolding pairs
-bytes-pairs n m =
-    bytes-append _ _ (bytes-append _ _ (bytes-append _ _ (bytes-littleEndian 2 28) (bytes-littleEndian 2 (4 * n))) (bytes-littleEndian 2 (28 + 4 * n))) (bytes-littleEndian 2 (1 + 4 * m))
-
-bytes-parts : (n m : ℕ) (x : List ℤ) (y : Readings) → AllBytes (partBytes n m x y)
-bytes-parts n m x y =
-    bytes-append _ _ (bytes-append _ _ (bytes-values (take n x)) (bytes-cons (marksByte y) [] (marks-byte y) bytes-none)) (bytes-values (take m (y .values)))
-
-module _ (n m : ℕ) (f : Frame) (hk : f .kind < 256) (hs : f .sender < 256) where
-  bytes-by : (t : Bool) → isAck (f .kind) ≡ t → AllBytes (frameBytes n m f)
-  bytes-by true k = rw (ack-bytes n m f k) (bytes-header f hk hs)
-  bytes-by false k =
-      rw (full-bytes n m f k) (bytes-append _ _ (bytes-append _ _ (bytes-header f hk hs) (bytes-pairs n m)) (bytes-parts n m (f .state) (f .readings)))

@@ -1,26 +1,21 @@
 -- What callers may use of frames and commands besides the laws of `RoundTrip`. Assumes nothing.
 use mathlib.Core.Path.{_≡_, sym, ap, _∙_, subst}
 use mathlib.Core.Bool.{true, false}
-use mathlib.Core.List.{List}
-use Prim.Native.Nat.{ℕ, _+_, _*_, _≤_}
+use Prim.Native.Nat.{ℕ, _≤_}
 use native.Mathlib.Omega.{arith}
 use lib.ListN.{length}
-use lib.IntN.{ℤ}
-use Rattle.readings.specs.Readings.{normalised, strayMark}
-use Rattle.frame.specs.Sizes.{sizesOk, commandsOk}
-use Rattle.frame.specs.Bytes.{AllBytes}
+use Rattle.readings.specs.Readings.{noReadings, normalised, strayMark}
+use Rattle.frame.specs.Sizes.{sizesOk}
 use Rattle.frame.specs.Marks.{absentZero}
 use Rattle.frame.specs.Format.{isAck, frameBytes, frameLength}
-use Rattle.frame.specs.Fields.{Typed, noState, noReadings, withParts, firstStates, carried}
-use Rattle.frame.specs.Reading.{kindOk, readFrame, ReadAs}
+use Rattle.frame.specs.Fields.{Typed, noState, withParts, firstStates, carried}
+use Rattle.frame.specs.Reading.{kindOk, ReadAs}
 use Rattle.frame.specs.Writing.{wellFormed}
-use Rattle.frame.specs.Command.{commandBytes}
 use Rattle.frame.specs.declared.Frame.{Frame}
 use Rattle.frame.proofs.Booleans.{or-true}
 use Rattle.frame.proofs.PresentMarks.{normalised-clean, normalised-absent}
-use Rattle.frame.proofs.Conditions.{sizes, commands}
-use Rattle.frame.proofs.FrameBytes.{length-frame, length-most, length-command}
-use Rattle.frame.proofs.ReadFields.{given}
+use Rattle.frame.proofs.Conditions.{sizes}
+use Rattle.frame.proofs.FrameBytes.{length-frame, length-most}
 use Rattle.frame.proofs.RoundTrip.{read-write}
 
 -- ---- the bytes of a frame
@@ -35,14 +30,9 @@ pub frame-length-most : (n m : ℕ) (f : Frame) → Typed f → sizesOk n m ≡ 
 frame-length-most n m f t ok =
     let z = sizes n m ok in rw (frame-length n m f t ok) (length-most n m (f .kind) (z .n-high) (z .m-high))
 
--- ---- the bytes of a command
-
-pub command-length : (p period : ℕ) (values : List ℤ) → commandsOk p ≡ true → length values ≡ 4 → length (commandBytes p period values) ≡ 8 + 4 * p
-command-length p period values ok h = length-command p period values (omega (arith, commands p ok))
-
 -- ---- frames that are read back as they are
 
--- so is a frame of each kind whose readings are as the law reads them
+-- writing refuses no frame by 8 whose kind there is and whose readings are as the law reads them
 pub normalised-well-formed : (m : ℕ) (f : Frame) → m ≤ 4 → kindOk (f .kind) ≡ true → normalised m (f .readings) ≡ f .readings → wellFormed m f ≡ true
 unfolding wellFormed
 normalised-well-formed m f hm known e =
@@ -64,15 +54,3 @@ full-carried n m f k x y = rw k (λ i. withParts f (x i) (y i))
 -- such a frame is read back exactly
 pub read-exact : (n m : ℕ) (f : Frame) → Typed f → sizesOk n m ≡ true → wellFormed m f ≡ true → carried n m f ≡ f → ReadAs n m (frameBytes n m f) f
 read-exact n m f t ok good e = subst (ReadAs n m (frameBytes n m f)) e (read-write n m f t ok good)
-
--- ---- what was read is written again
-
--- ---- what reading gives, refused or not
-
--- its state has 0 beyond n
-pub read-state : (n m : ℕ) (b : List ℕ) → AllBytes b → firstStates n (readFrame n m b .state) ≡ readFrame n m b .state
-read-state n m b h = given n m b h .state
-
--- its readings are as the law reads them
-pub read-readings : (n m : ℕ) (b : List ℕ) → AllBytes b → normalised m (readFrame n m b .readings) ≡ readFrame n m b .readings
-read-readings n m b h = given n m b h .readings

@@ -1,3 +1,4 @@
+-- Laws of bytes, of frames and of their round trips.
 pub mod Booleans
 pub mod Numbers
 pub mod TwosComplement
@@ -11,6 +12,5 @@ pub mod Refusals
 pub mod Forth
 pub mod Back
 pub mod RoundTrip
-pub mod ReadFields
 pub mod FrameLaws
 pub mod Cases

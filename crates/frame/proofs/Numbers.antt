@@ -1,6 +1,6 @@
 -- Laws of numbers as bytes: bytes spell a number and a number its bytes, at every width. Assumes nothing.
 use mathlib.Core.Path.{_≡_, refl, sym, ap, _∙_}
-use mathlib.Core.List.{List, [], _∷_, _++_}
+use mathlib.Core.List.{List, [], _∷_}
 use Prim.Native.Nat.{ℕ, zero, suc, _+_, _*_, _/_, _%_, _^_, _≤_, _<_}
 use native.Mathlib.Omega.{arith}
 use native.Mathlib.Nat.{pow-suc, div-lt-iff-lt-mul, add-zero}
@@ -10,26 +10,9 @@ use Rattle.frame.specs.Bytes.{AllBytes, littleEndian, spelled, part, num
 
 -- ---- lists of bytes
 
-pub bytes-none : AllBytes []
-unfolding AllBytes
-bytes-none i = omega arith
-
 pub bytes-tail : (b : ℕ) (l : List ℕ) → AllBytes (b ∷ l) → AllBytes l
 unfolding AllBytes
 bytes-tail b l h = λ i. h (suc i)
-
-pub bytes-cons : (b : ℕ) (l : List ℕ) → b < 256 → AllBytes l → AllBytes (b ∷ l)
-unfolding AllBytes
-bytes-cons b l h t zero = h
-bytes-cons b l h t (suc i) = t i
-
-bytes-head : (b : ℕ) (l : List ℕ) → AllBytes (b ∷ l) → b < 256
-unfolding AllBytes
-bytes-head b l h = h 0
-
-pub bytes-append : (l k : List ℕ) → AllBytes l → AllBytes k → AllBytes (l ++ k)
-bytes-append [] k h t = t
-bytes-append (b ∷ l) k h t = bytes-cons b (l ++ k) (bytes-head b l h) (bytes-append l k (bytes-tail b l h) t)
 
 pub bytes-drop : (k : ℕ) (l : List ℕ) → AllBytes l → AllBytes (drop k l)
 unfolding AllBytes
@@ -55,12 +38,6 @@ pub length-littleEndian : (k x : ℕ) → length (littleEndian k x) ≡ k
 unfolding littleEndian
 length-littleEndian zero x = refl
 length-littleEndian (suc k) x = ap suc (length-littleEndian k (x / 256))
-
-pub bytes-littleEndian : (k x : ℕ) → AllBytes (littleEndian k x)
-unfolding littleEndian AllBytes
-bytes-littleEndian zero x i = omega arith
-bytes-littleEndian (suc k) x zero = omega arith
-bytes-littleEndian (suc k) x (suc i) = bytes-littleEndian k (x / 256) i
 
 pub spelled-littleEndian : (k x : ℕ) → x < 256 ^ k → spelled (littleEndian k x) ≡ x
 unfolding littleEndian spelled

@@ -13,7 +13,7 @@ use mir.Val.{SFits, ofZ}
 use Rattle.readings.specs.declared.Readings.{Readings}
 use Rattle.readings.specs.Places.{entry, filled}
 use Rattle.readings.specs.Readings.{present, value, normalised, anyMark, strayMark}
-use Rattle.readings.proofs.Places.{filled-at, filled-behind, filled-same}
+use Rattle.readings.proofs.Places.{filled-at, filled-behind}
 use Rattle.frame.specs.Marks.{bit, marksByte, marksIn, marksBelow, isZero, absentZero}
 use Rattle.frame.proofs.Booleans.{never, all-of, all-at}
 
@@ -174,15 +174,6 @@ unfolding absentZero
 value-as-given m y h j l = as-read (present y j) (entry (y .values) j) (all-at (λ j. present y j || isZero (entry (y .values) j)) m j h l)
 
 -- ---- readings as the law reads them
-
--- no mark at or above m, absent values 0, and 0 in the places of the values beyond m
-pub same-readings : (m : ℕ) (y : Readings) → length (y .present) ≡ 4 → strayMark m y ≡ false → absentZero m y ≡ true
-    → filled (pos 0) 4 m (entry (y .values)) ≡ y .values → normalised m y ≡ y
-unfolding normalised
-same-readings m y h clean absent e =
-    let marks = marks-below m y h clean in
-    let values = filled-same (pos 0) 4 m (value y) (entry (y .values)) (λ j l w. value-as-given m y absent j l) ∙ e in
-    λ i. record { present = marks i; values = values i }
 
 module _ (m : ℕ) (y : Readings) (m≤4 : m ≤ 4) where
   pub normalised-clean : strayMark m (normalised m y) ≡ false

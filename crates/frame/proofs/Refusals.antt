@@ -7,12 +7,13 @@ use native.Mathlib.Omega.{arith}
 use lib.ListN.{length}
 use lib.IntN.{ℤ}
 use lib.Dec.{eqb·suc-zero}
-use borrow.Author.Tests.{le-leb, lt-leb, leb-true}
+use borrow.Author.Tests.{le-leb, lt-leb}
+use Rattle.readings.specs.Readings.{noReadings}
 use Rattle.frame.specs.Sizes.{sizesOk, commandsOk}
 use Rattle.frame.specs.Format.{isAck, frameBytes}
-use Rattle.frame.specs.Fields.{noState, noReadings, blank}
+use Rattle.frame.specs.Fields.{noState, blank}
 use Rattle.frame.specs.Reading.{kindIn, headerOk, statePart, stateIn, readingsPart, readingsIn, partsOk, isFrame, headed, fieldsIn, readRefusal, readFrame}
-use Rattle.frame.specs.Writing.{wellFormed, frameRoom, writeRefusal, written}
+use Rattle.frame.specs.Writing.{wellFormed, writeRefusal, written}
 use Rattle.frame.specs.Command.{commandBytes, commandRefusal, commandWritten}
 use Rattle.frame.specs.declared.Frame.{Frame}
 
@@ -79,22 +80,6 @@ module _ (n m : ℕ) (f : Frame) (area : List ℕ) where
   pub frame-written : writeRefusal n m f area ≡ 0 → written n m f area ≡ frameBytes n m f
   unfolding written
   frame-written e = rw e
-
-  -- what it tells that nothing is refused
-  pub record Taken : Type 0 where
-    pub sized : sizesOk n m ≡ true
-    pub room : 69 ≤ length area
-    pub good : wellFormed m f ≡ true
-
-  taken-by : (s r g : Bool) → sizesOk n m ≡ s → frameRoom area ≡ r → wellFormed m f ≡ g → _≡_ {A = ℕ} (cond s (cond r (cond g 0 8) 5) 2) 0 → Taken
-  taken-by true true true es er eg e = record { sized = es; room = leb-true 69 (length area) er; good = eg }
-  taken-by true true false es er eg e = absurd (let z : _≡_ {A = ℕ} 8 0 = e in omega arith)
-  taken-by true false g es er eg e = absurd (let z : _≡_ {A = ℕ} 5 0 = e in omega arith)
-  taken-by false r g es er eg e = absurd (let z : _≡_ {A = ℕ} 2 0 = e in omega arith)
-
-  pub taken : writeRefusal n m f area ≡ 0 → Taken
-  unfolding writeRefusal
-  taken e = taken-by (sizesOk n m) (frameRoom area) (wellFormed m f) refl refl refl e
 
 -- ---- writing a command
 

@@ -11,7 +11,7 @@ use lib.Dec.{ltb}
 use borrow.Author.Tests.{ltb-true, le-ltb}
 use mir.Syntax.{w32}
 use mir.Val.{SFits, toZ, ofZ, sel}
-use mir.ValLaws.{toZ-ofZ, ofZ-toZ, toZ-fits, toZ-pos, ofZ-fits}
+use mir.ValLaws.{toZ-ofZ, ofZ-toZ, toZ-pos, ofZ-fits}
 use Rattle.frame.specs.Bytes.{twosComplement, fromTwosComplement}
 
 -- ---- the definitions are the toolchain's
@@ -40,24 +40,22 @@ value-back z s = as-toZ (twosComplement z) ∙ ap (toZ w32) (as-ofZ z) ∙ toZ-o
 pub bits-lt : (z : ℤ) → SFits w32 z → twosComplement z < 2 ^ 32
 bits-lt z s = rw as-ofZ (ofZ-fits w32 z s .fits)
 
-pub value-fits : (x : ℕ) → x < 2 ^ 32 → SFits w32 (fromTwosComplement x)
-value-fits x h = rw as-toZ (toZ-fits w32 x (record { fits = h }))
-
 -- ---- what the code computes
 
-minus : (k : ℕ) → negsuc 0 -ℤ pos k ≡ negsuc k
-minus zero = refl
-minus (suc k) = ap (λ (n : ℕ). negsuc (suc n)) (zero-add k)
+-- −1 − z, of both signs
+pub minus-pos : (k : ℕ) → negsuc 0 -ℤ pos k ≡ negsuc k
+minus-pos zero = refl
+minus-pos (suc k) = ap (λ (n : ℕ). negsuc (suc n)) (zero-add k)
 
-unminus : (k : ℕ) → negsuc 0 -ℤ negsuc k ≡ pos k
-unminus k = rw (le-ltb (suc k) 1 (omega arith)) (ap pos (omega arith))
+pub minus-negsuc : (k : ℕ) → negsuc 0 -ℤ negsuc k ≡ pos k
+minus-negsuc k = rw (le-ltb (suc k) 1 (omega arith)) (ap pos (omega arith))
 
 -- bits from 2147483648 on are a negative number
 pub from-high-bits : (x : ℕ) → 2147483648 ≤ x → x < 4294967296 → negsuc 0 -ℤ toZ w32 (4294967295 - x) ≡ toZ w32 x
 from-high-bits x low high =
     let k : ℕ = 4294967295 - x in
     ap (λ (z : ℤ). negsuc 0 -ℤ z) (toZ-pos w32 k (omega arith))
-    ∙ minus k
+    ∙ minus-pos k
     ∙ rw (le-ltb x 2147483648 low) (ap negsuc (omega arith))
 
 -- a negative number is −1 − k
@@ -74,8 +72,8 @@ negative (pos n) s t = absurd (omega (arith, ltb-true n 0 t))
 negative (negsuc k) s t =
     let small : k < 2147483648 = s .sfits in record {
       k = k;
-      same = ap (λ (z : ℤ). toZ w32 (ofZ w32 z)) (unminus k) ∙ toZ-pos w32 k small;
-      fits = subst (SFits w32) (sym (unminus k)) (record { sfits = small });
+      same = ap (λ (z : ℤ). toZ w32 (ofZ w32 z)) (minus-negsuc k) ∙ toZ-pos w32 k small;
+      fits = subst (SFits w32) (sym (minus-negsuc k)) (record { sfits = small });
       small = small;
       back = omega arith;
     }

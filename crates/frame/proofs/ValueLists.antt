@@ -11,8 +11,8 @@ use mir.Val.{SFits}
 use Rattle.readings.specs.Places.{entry, filled}
 use Rattle.readings.proofs.Places.{filled-same}
 use Rattle.frame.specs.Bytes.{AllBytes, littleEndian, numberAt, put, twosComplement, fromTwosComplement, valuesBytes, valueAt}
-use Rattle.frame.proofs.Numbers.{bytes-none, length-littleEndian, bytes-littleEndian, spelled-littleEndian, bytes-append, bytes-drop, number-back, number-lt}
-use Rattle.frame.proofs.TwosComplement.{bits-lt, bits-back, value-back, value-fits}
+use Rattle.frame.proofs.Numbers.{length-littleEndian, spelled-littleEndian, bytes-drop, number-back, number-lt}
+use Rattle.frame.proofs.TwosComplement.{bits-lt, bits-back, value-back}
 use Rattle.frame.proofs.Areas.{put-put}
 
 -- ---- their bytes
@@ -24,11 +24,6 @@ length-valuesBytes (z ∷ vs) = length-append (littleEndian 4 (twosComplement z)
 
 pub length-first : (k : ℕ) (vs : List ℤ) → k ≤ length vs → length (valuesBytes (take k vs)) ≡ 4 * k
 length-first k vs h = length-valuesBytes (take k vs) ∙ ap (λ (x : ℕ). 4 * x) (length-take-le k vs h)
-
-pub bytes-values : (vs : List ℤ) → AllBytes (valuesBytes vs)
-unfolding valuesBytes
-bytes-values [] = bytes-none
-bytes-values (z ∷ vs) = bytes-append (littleEndian 4 (twosComplement z)) _ (bytes-littleEndian 4 (twosComplement z)) (bytes-values vs)
 
 values-append : (a b : List ℤ) → valuesBytes (a ++ b) ≡ valuesBytes a ++ valuesBytes b
 unfolding valuesBytes
@@ -74,10 +69,9 @@ values-back zero [] h e = refl
 values-back zero (x ∷ p) h e = absurd (omega arith)
 values-back (suc k) p h e =
     let rest : length (drop 4 p) ≡ 4 * k = simp length-drop (omega arith) in
-    rw (first-back p h (omega arith), filled-same (pos 0) k k (λ i. valueAt p (suc i)) (valueAt (drop 4 p)) (λ i l w. value-drop p i), values-back k (drop 4 p) (bytes-drop 4 p h) rest)
+    rw (
+      first-back p h (omega arith),
+      filled-same (pos 0) k k (λ i. valueAt p (suc i)) (valueAt (drop 4 p)) (λ i l w. value-drop p i),
+      values-back k (drop 4 p) (bytes-drop 4 p h) rest,
+    )
     (take-append-drop 4 p)
-
--- a value that was read is an i32
-pub value-i32 : (p : List ℕ) (i : ℕ) → AllBytes p → 4 * i + 4 ≤ length p → SFits w32 (valueAt p i)
-unfolding valueAt
-value-i32 p i h room = value-fits (numberAt 4 p (4 * i)) (number-lt p (4 * i) 4 h room)

@@ -5,8 +5,9 @@ use mathlib.Core.Bool.{true, false}
 use mathlib.Core.List.{List, [], _∷_, _++_}
 use lib.ListN.{replicate}
 use lib.IntN.{pos, negsuc}
+use Rattle.readings.specs.Readings.{noReadings}
 use Rattle.frame.specs.Format.{frameBytes}
-use Rattle.frame.specs.Fields.{noState, noReadings}
+use Rattle.frame.specs.Fields.{noState}
 use Rattle.frame.specs.declared.Frame.{Frame}
 
 -- a frame of n states and m readings, and its bytes

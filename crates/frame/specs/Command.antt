@@ -1,12 +1,13 @@
--- The bytes of a command, what writing it answers, and what it writes.
+-- The bytes of a command, what writing it answers, what it writes, and the values in it.
 use Prim.Native.Nat.{ℕ}
 use mathlib.Core.Bool.{Bool, cond}
 use mathlib.Core.List.{List, [], _∷_, _++_}
-use lib.ListN.{length, take}
-use lib.IntN.{ℤ}
+use lib.ListN.{length, take, drop}
+use lib.IntN.{ℤ, pos}
 use lib.Dec.{leb, eqb}
+use Rattle.readings.specs.Places.{filled}
 use Rattle.frame.specs.Sizes.{commandsOk}
-use Rattle.frame.specs.Bytes.{littleEndian, valuesBytes}
+use Rattle.frame.specs.Bytes.{littleEndian, valuesBytes, valueAt}
 
 -- "Command: byte 0 is 5, byte 1 is p, bytes 2 and 3 zero, period at 4, p i32 values from 8. No sender."
 unfoldable pub commandBytes : ℕ → ℕ → List ℤ → List ℕ
@@ -23,3 +24,7 @@ commandRefusal p area = cond (commandsOk p) (cond (commandRoom area) 0 5) 2
 -- what is written: nothing where the call is refused
 unfoldable pub commandWritten : ℕ → ℕ → List ℤ → List ℕ → List ℕ
 commandWritten p period values area = cond (eqb (commandRefusal p area) 0) (commandBytes p period values) []
+
+-- the values that a command area has room for, "p i32 values from 8"; 0 in every place where the area is too short for a command
+unfoldable pub commandValues : List ℕ → List ℤ
+commandValues area = filled (pos 0) 4 (cond (commandRoom area) 4 0) (valueAt (drop 8 area))

@@ -1,20 +1,20 @@
 -- The fields of a frame: what their types say of them, and which of them a frame's bytes carry.
 use Prim.Native.Nat.{ℕ, _<_, _^_}
 use mathlib.Core.Path.{_≡_}
-use mathlib.Core.Bool.{false, cond}
+use mathlib.Core.Bool.{cond}
 use mathlib.Core.List.{List}
 use lib.ListN.{length, replicate}
 use lib.IntN.{ℤ, pos}
 use mir.Syntax.{w32}
 use mir.Val.{SFits}
 use Rattle.readings.specs.declared.Readings.{Readings}
-use Rattle.readings.specs.Readings.{normalised}
+use Rattle.readings.specs.Readings.{noReadings, normalised}
 use Rattle.readings.specs.Places.{entry, filled}
 use Rattle.frame.specs.Format.{isAck}
 use Rattle.frame.specs.declared.Frame.{Frame}
 
 -- every value is an i32: from −2147483648 to 2147483647
-unfoldable pub AllI32 : List ℤ → Type 0
+abbrev pub AllI32 : List ℤ → Type 0
 AllI32 values = (i : ℕ) → SFits w32 (entry values i)
 
 -- what the types of a frame's fields say
@@ -34,10 +34,6 @@ pub record Typed (f : Frame) : Type 0 where
 -- a state with 0 in every place
 abbrev pub noState : List ℤ
 noState = replicate 6 (pos 0)
-
--- readings with no mark, and 0 in every place
-abbrev pub noReadings : Readings
-noReadings = record { present = replicate 4 false; values = replicate 4 (pos 0) }
 
 -- the frame of a refused call
 abbrev pub blank : Frame

@@ -1,3 +1,4 @@
+-- The definitions, in the order to read: answers and sizes, bytes, the format, what reading finds and what writing does, commands, worked frames.
 pub mod Answers
 pub mod Sizes
 pub mod Bytes

@@ -9,11 +9,12 @@ use lib.IntN.{ℤ, pos}
 use lib.Dec.{leb, eqb}
 use Rattle.readings.specs.declared.Readings.{Readings}
 use Rattle.readings.specs.Places.{filled}
+use Rattle.readings.specs.Readings.{noReadings}
 use Rattle.frame.specs.Sizes.{sizesOk}
 use Rattle.frame.specs.Bytes.{part, numberAt, valueAt}
 use Rattle.frame.specs.Marks.{marksIn, marksBelow, absentZero}
 use Rattle.frame.specs.Format.{isAck, partCount, frameLength}
-use Rattle.frame.specs.Fields.{noState, noReadings, blank}
+use Rattle.frame.specs.Fields.{noState, blank}
 use Rattle.frame.specs.declared.Frame.{Frame}
 
 -- the kind that the bytes give

@@ -8,6 +8,9 @@ use crate::values::put_values;
 use crate::word::put_4;
 use crate::word::put_u32;
 
+// The bytes of a command of four values, for which an area must have room.
+pub(crate) const LONGEST_COMMAND: usize = 24;
+
 // Writes a command and returns its length.
 pub(crate) fn put_command(p: usize, period: u32, values: [i32; 4], area: &mut [u8]) -> usize
     requires { ⌜ (p ≤ 4) × (24 ≤ length (now area)) ⌝ }

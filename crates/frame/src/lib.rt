@@ -13,10 +13,11 @@ ghost use Rattle.frame.specs.Answers.{number};
 ghost use Rattle.frame.specs.Sizes.{sizesOk};
 ghost use Rattle.frame.specs.Bytes.{put, over};
 ghost use Rattle.frame.specs.Format.{frameBytes};
-ghost use Rattle.frame.specs.Fields.{blank, noReadings};
+ghost use Rattle.frame.specs.Fields.{blank};
 ghost use Rattle.frame.specs.Reading.{readRefusal, readFrame};
 ghost use Rattle.frame.specs.Writing.{wellFormed, writeRefusal, written};
-ghost use Rattle.frame.specs.Command.{commandRefusal, commandWritten};
+ghost use Rattle.frame.specs.Command.{commandRefusal, commandWritten, commandValues};
+use command::LONGEST_COMMAND;
 use command::put_command;
 use header::ACK;
 use header::headed_by;
@@ -30,6 +31,7 @@ use parts::put_pairs;
 use parts::put_parts;
 use parts::read_parts;
 use readings::Readings;
+use values::read_values;
 
 // Kinds are 1 Propose, 2 Ack, 3 Decide and 4 Estimate. An Ack carries no state and no readings.
 pub struct Frame {
@@ -49,6 +51,18 @@ pub enum Answer {
     Sizes,
     Area,
     Malformed,
+}
+
+// Document 01's number of an answer, 0 where nothing is refused.
+pub fn number_of(answer: Answer) -> u8
+    ensures { λ r. ⌜ r ≡ number answer ⌝ }
+{
+    match answer {
+        Answer::Done => 0,
+        Answer::Sizes => 2,
+        Answer::Area => 5,
+        Answer::Malformed => 8,
+    }
 }
 
 // The frame is blank where reading is refused.
@@ -79,20 +93,11 @@ fn sizes_ok(n: usize, m: usize) -> bool
     m <= 4
 }
 
-fn no_readings() -> Readings
-    ensures { λ r. ⌜ r ≡ noReadings ⌝ }
-{
-    Readings {
-        present: [false; 4],
-        values: [0i32; 4],
-    }
-}
-
 // What a refused reading gives: a blank frame.
 fn refused_read(answer: Answer) -> Parsed
     ensures { λ r. ⌜ (r .answer ≡ answer) × (r .frame ≡ blank) ⌝ }
 {
-    let readings = no_readings();
+    let readings = readings::no_readings();
     Parsed {
         answer,
         frame: Frame {
@@ -128,7 +133,7 @@ pub fn read(n: usize, m: usize, bytes: &[u8]) -> Parsed
     }
     let kind = bytes[0];
     if kind == ACK {
-        let frame = headed_by(bytes, [0i32; 6], no_readings());
+        let frame = headed_by(bytes, [0i32; 6], readings::no_readings());
         return Parsed {
             answer: Answer::Done,
             frame,
@@ -220,7 +225,7 @@ pub fn write_command(p: usize, period: u32, values: [i32; 4], area: &mut [u8]) -
     if 4 < p {
         return refused_write(Answer::Sizes);
     }
-    if area.len() < 24 {
+    if area.len() < LONGEST_COMMAND {
         return refused_write(Answer::Area);
     }
     let length = put_command(p, period, values, area);
@@ -228,4 +233,16 @@ pub fn write_command(p: usize, period: u32, values: [i32; 4], area: &mut [u8]) -
         answer: Answer::Done,
         length,
     }
+}
+
+// The values of the command at the start of an area: 0 in each place where the area is too short for one.
+pub fn command_values(area: &[u8]) -> [i32; 4]
+    ensures { λ r. ⌜ r ≡ commandValues (now (area .entry)) ⌝ }
+{
+    let mut values = [0i32; 4];
+    if area.len() < LONGEST_COMMAND {
+        return values;
+    }
+    read_values(&area[8..], &mut values);
+    values
 }

@@ -65,7 +65,8 @@ fn read_readings(m: usize, part: &[u8]) -> Readings
 // Each part goes to its own reader, at the offset and the length that the frame gives.
 pub(crate) fn read_parts(n: usize, m: usize, bytes: &[u8]) -> Parts
     requires { ⌜ (n ≤ 6) × (m ≤ 4) × (length (now bytes) ≡ 29 + 4 * n + 4 * m) × (pairsOk n m (now bytes) ≡ true) ⌝ }
-    ensures { λ r. ⌜ (r .state ≡ stateIn n (statePart n (now (bytes .entry)))) × (r .marks ≡ marksAt (readingsPart n m (now (bytes .entry)))) × (r .readings ≡ readingsIn m (readingsPart n m (now (bytes .entry)))) ⌝ }
+    ensures { λ r. ⌜ (r .state ≡ stateIn n (statePart n (now (bytes .entry))))
+        × (r .marks ≡ marksAt (readingsPart n m (now (bytes .entry)))) × (r .readings ≡ readingsIn m (readingsPart n m (now (bytes .entry)))) ⌝ }
 {
     let state_start = u16_at(bytes, 20);
     let state_end = state_start + u16_at(bytes, 22);

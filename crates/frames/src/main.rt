@@ -16,7 +16,6 @@ use samples::estimate;
 use samples::fifth_kind;
 use samples::propose;
 use samples::stray_mark;
-use trials::code;
 use trials::damage;
 use trials::lengths;
 use trials::reading;
@@ -100,7 +99,7 @@ fn command_to_23(p: usize) -> Written {
 
 fn written(label: &[u8], w: Written) {
     let answer = w.answer;
-    written_line(label, code(answer), w.length);
+    written_line(label, frame::number_of(answer), w.length);
 }
 
 fn writes() {

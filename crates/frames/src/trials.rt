@@ -1,22 +1,8 @@
 // What reading and writing answer on bytes that were changed, cut short or followed by others.
-ghost use mathlib.Core.Path.{_≡_};
-ghost use Rattle.frame.specs.Answers.{number};
 use crate::print::letter;
 use crate::print::text;
 use frame::Answer;
 use frame::Frame;
-
-// Document 01's number.
-pub(crate) fn code(answer: Answer) -> u8
-    ensures { λ r. ⌜ r ≡ number answer ⌝ }
-{
-    match answer {
-        Answer::Done => 0,
-        Answer::Sizes => 2,
-        Answer::Area => 5,
-        Answer::Malformed => 8,
-    }
-}
 
 // The answer on the first bytes, as many as `length`.
 pub(crate) fn reading(n: usize, m: usize, bytes: [u8; 80], length: usize) -> u8 {
@@ -25,7 +11,7 @@ pub(crate) fn reading(n: usize, m: usize, bytes: [u8; 80], length: usize) -> u8 
     }
     let r = frame::read(n, m, &bytes[0..length]);
     let answer = r.answer;
-    code(answer)
+    frame::number_of(answer)
 }
 
 fn same_start(a: &[u8], b: &[u8], length: usize) -> bool {

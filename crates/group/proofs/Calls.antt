@@ -19,6 +19,7 @@ use Rattle.scram.specs.Demand3.{Result}
 use Rattle.scram.specs.Shown.{Still, Sent, Commanded, Does, Shown}
 use Rattle.law.specs.declared.Settings as Law
 use Rattle.law.specs.Settings.{refusal}
+use Rattle.frame.specs.Fields.{AllI32}
 use Rattle.replica.specs.declared.Settings.{Settings}
 use Rattle.replica.specs.declared.Replica.{Replica}
 use Rattle.replica.specs.Settings.{settingsRefusal, lawOf, groupOf}
@@ -27,7 +28,7 @@ use Rattle.replica.specs.Frames.{sentBytes, issuedBytes}
 use Rattle.replica.specs.Calls.{checked, stepRefusal, tickOutcome, giveUpOutcome, arriveOutcome}
 use Rattle.replica.proofs.Accepted.{accepted}
 use Rattle.replica.proofs.Calls.{checked-refused, checked-done, ready}
-use Rattle.group.specs.Group.{AllI32, Handed, Areas, resultOf, settingsOf, group}
+use Rattle.group.specs.Group.{Handed, Areas, resultOf, settingsOf, group}
 use Rattle.group.proofs.Typed.{Typed, Carried, CarriedSent, Keeps, fresh-typed, row-ok, tick-keeps, giveUp-keeps, arrive-keeps}
 use Rattle.group.proofs.Reread.{found-sent}
 
@@ -70,7 +71,8 @@ module _ (N : ℕ) (law : Law.Settings) (start : AllI32 (law .start)) (e : setti
     still o n = subst (λ x. Still r (resultOf (settingsOf N law i) x)) (checked-refused r f c o n) (record { box = refl; refused = refl; frame = refl; command = refl })
 
     -- a call is refused so, or has a number that a frame can carry and goes on to the step
-    checked-does : (o p : Outcome (List ℤ) Readings) → (i < 256 → (p ≡ o) × Keeps law o) → Steps i o (resultOf (settingsOf N law i) (checked r f c p)) ⊎ Still r (resultOf (settingsOf N law i) (checked r f c p))
+    checked-does : (o p : Outcome (List ℤ) Readings) → (i < 256 → (p ≡ o) × Keeps law o)
+        → Steps i o (resultOf (settingsOf N law i) (checked r f c p)) ⊎ Still r (resultOf (settingsOf N law i) (checked r f c p))
     checked-does o p k = by (eqb (stepRefusal r f c) 0) refl
       where
         by : (b : Bool) → eqb (stepRefusal r f c) 0 ≡ b
@@ -117,7 +119,13 @@ module _ (N : ℕ) (law : Law.Settings) (start : AllI32 (law .start)) (e : setti
   shown = record {
     freshKept = λ i. (refl, fresh-typed law refuses N i start);
     freshHeld = λ i. refl;
-    ticks = λ i c y a k. subst (λ c. Steps i (tick L G i (held c) (strayMark (law .m) (y .readings)) (normalised (law .m) (y .readings))) (group N law .tick c y a) ⊎ Still c (group N law .tick c y a)) (sym (k .0)) (ticks i (held c) y a (k .1));
+    ticks =
+        λ i c y a k. subst
+        (λ c. Steps i (tick L G i (held c) (strayMark (law .m) (y .readings)) (normalised (law .m) (y .readings))) (group N law .tick c y a)
+        ⊎ Still c (group N law .tick c y a)) (sym (k .0)) (ticks i (held c) y a (k .1));
     givesUp = λ i c a k. subst (λ c. Steps i (giveUp L G i (held c)) (group N law .giveUp c a) ⊎ Still c (group N law .giveUp c a)) (sym (k .0)) (givesUp i (held c) a (k .1));
-    arrives = λ i c m a k w. subst (λ c. Steps i (arrive L G i (held c) m) (group N law .arrive c (group N law .frameBytes m) a) ⊎ Still c (group N law .arrive c (group N law .frameBytes m) a)) (sym (k .0)) (arrives i (held c) m a (k .1) w);
+    arrives =
+        λ i c m a k w. subst
+        (λ c. Steps i (arrive L G i (held c) m) (group N law .arrive c (group N law .frameBytes m) a)
+        ⊎ Still c (group N law .arrive c (group N law .frameBytes m) a)) (sym (k .0)) (arrives i (held c) m a (k .1) w);
   }

@@ -1,3 +1,4 @@
+-- The proof of demand 3 for groups of this replica.
 pub mod Typed
 pub mod Reread
 pub mod Calls

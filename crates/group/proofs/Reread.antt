@@ -41,7 +41,6 @@ kind-byte Estimate = omega arith
 
 module _ (s : Settings) (e : refusal (s .law) ≡ 0) (m : Message (List ℤ) Readings) (c : Carried (s .law) m) where
   typed : Fields.Typed (frameOf (s .law .m) m)
-  unfolding Fields.AllI32
   typed = record {
     kind = kind-byte (m .kind);
     sender = c .sender;

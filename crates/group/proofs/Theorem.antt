@@ -6,9 +6,10 @@ use Rattle.scram.specs.Demand3.{Entry, Issued, In, after}
 use Rattle.scram.proofs.Boxes.{two-majorities}
 use Rattle.scram.proofs.Agreement as Agreement
 use Rattle.law.specs.declared.Settings as Law
+use Rattle.frame.specs.Fields.{AllI32}
 use Rattle.replica.specs.declared.Replica.{Replica}
 use Rattle.replica.specs.Settings.{settingsRefusal, lawOf, groupOf}
-use Rattle.group.specs.Group.{AllI32, Handed, Areas, settingsOf, group}
+use Rattle.group.specs.Group.{Handed, Areas, settingsOf, group}
 use Rattle.group.specs.Demand3.{DemandThree}
 use Rattle.group.proofs.Calls.{Kept, shown}
 use Rattle.group.proofs.Typed.{Carried}

@@ -14,7 +14,7 @@ use mir.Syntax.{w32}
 use mir.Val.{SFits}
 use Rattle.readings.specs.declared.Readings.{Readings}
 use Rattle.readings.specs.Places.{entry, filled}
-use Rattle.readings.specs.Readings.{normalised}
+use Rattle.readings.specs.Readings.{noReadings, normalised}
 use Rattle.readings.proofs.Places.{filled-at, filled-behind, filled-length, filled-each, blank-at}
 use Rattle.readings.proofs.Normalised.{normalised-twice, normalised-each, normalised-none}
 use Rattle.scram.specs.declared.Kind.{Kind}
@@ -26,9 +26,9 @@ use Rattle.law.specs.declared.Settings as Law
 use Rattle.law.specs.Settings.{refusal}
 use Rattle.law.specs.Law.{updated}
 use Rattle.law.proofs.Laws.{sizes-accepted, updated-length, updated-fits, updated-behind}
+use Rattle.frame.specs.Fields.{AllI32, noState}
 use Rattle.replica.specs.declared.Settings.{Settings}
-use Rattle.replica.specs.Settings.{noReadings, noState, lawOf}
-use Rattle.group.specs.Group.{AllI32}
+use Rattle.replica.specs.Settings.{lawOf}
 
 zero-fits : SFits w32 (pos 0)
 zero-fits = record { sfits = lit< tt }
@@ -302,7 +302,8 @@ module _ (law : Law.Settings) where
               sent = tt;
             })
 
-        adopt-typed : (h : Replica (List ℤ) Readings) (m : Message (List ℤ) Readings) (d : Bool) → Typed h → Carried m → Typed (adopting (lawOf s) h (m .view) (m .state) (m .readings) d)
+        adopt-typed : (h : Replica (List ℤ) Readings) (m : Message (List ℤ) Readings) (d : Bool) → Typed h → Carried m
+            → Typed (adopting (lawOf s) h (m .view) (m .state) (m .readings) d)
         adopt-typed h m d t c = record {
           period = t .period;
           view = c .view;

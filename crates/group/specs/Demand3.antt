@@ -5,8 +5,9 @@ use mathlib.Core.Path.{_≡_}
 use mathlib.Core.List.{List}
 use Rattle.scram.specs.Demand3.{Entry, Demand3}
 use Rattle.law.specs.declared.Settings as Law
+use Rattle.frame.specs.Fields.{AllI32}
 use Rattle.replica.specs.Settings.{settingsRefusal, lawOf}
-use Rattle.group.specs.Group.{AllI32, Handed, Areas, settingsOf, group}
+use Rattle.group.specs.Group.{Handed, Areas, settingsOf, group}
 
 -- N boxes, a law whose starting state has i32 values as its type says, settings that making accepts, any history
 abbrev pub DemandThree : Type 0

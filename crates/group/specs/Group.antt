@@ -5,25 +5,19 @@ use mathlib.Core.List.{List}
 use mathlib.Core.Option.{some}
 use lib.ListN.{length}
 use lib.IntN.{ℤ}
-use mir.Syntax.{w32}
-use mir.Val.{SFits}
 use Rattle.readings.specs.declared.Readings.{Readings}
-use Rattle.readings.specs.Places.{entry}
 use Rattle.readings.specs.Readings.{normalised, strayMark}
 use Rattle.scram.specs.Replica.{Outcome, fresh}
 use Rattle.scram.specs.Demand3.{Result, System}
 use Rattle.scram.specs.Shown.{isRefused}
 use Rattle.law.specs.declared.Settings as Law
+use Rattle.frame.specs.Fields.{AllI32}
 use Rattle.replica.specs.declared.Settings.{Settings}
 use Rattle.replica.specs.declared.Replica.{Replica}
 use Rattle.replica.specs.Settings.{lawOf}
 use Rattle.replica.specs.Held.{held, replicaOf}
 use Rattle.replica.specs.Frames.{sentBytes, issuedBytes}
 use Rattle.replica.specs.Calls.{tickOutcome, giveUpOutcome, arriveOutcome}
-
--- every value is an i32
-abbrev pub AllI32 : List ℤ → Type 0
-AllI32 values = (i : ℕ) → SFits w32 (entry values i)
 
 -- readings handed to a tick: any value of the type `Readings`, which has four marks and four i32 values
 pub record Handed : Type 0 where

@@ -7,7 +7,7 @@ use lib.ListN.{length}
 use lib.IntN.{ℤ, pos}
 use mir.Syntax.{w32}
 use mir.Val.{SFits}
-use borrow.Author.Tests.{eqb-true, eq-eqb}
+use borrow.Author.Tests.{eqb-true, eq-eqb, ne-eqb}
 use Rattle.readings.specs.declared.Readings.{Readings}
 use Rattle.readings.specs.Places.{entry, filled}
 use Rattle.readings.specs.Readings.{normalised}
@@ -45,6 +45,11 @@ updated-length s x y h = cond-holds (λ (v : List ℤ). length v ≡ 6) (stands 
 pub updated-fits : (s : Settings) (x : List ℤ) (y : Readings) → FitI32 x → FitI32 (updated s x y)
 unfolding updated next
 updated-fits s x y h = cond-holds FitI32 (stands s) (filled (pos 0) 6 (s .n) _) x (λ _. filled-fits 6 (s .n) _ (λ i. clamp-fits _)) (λ _. h)
+
+-- refused settings leave the state as it was
+pub updated-refused : (s : Settings) (x : List ℤ) (y : Readings) → (refusal s ≡ 0 → ⊥) → x ≡ updated s x y
+unfolding updated
+updated-refused s x y h = simp (ne-eqb (refusal s) 0 h)
 
 -- the places beyond n hold 0
 pub updated-behind : (s : Settings) (x : List ℤ) (y : Readings) → refusal s ≡ 0 → (i : ℕ) → s .n ≤ i → entry (updated s x y) i ≡ pos 0

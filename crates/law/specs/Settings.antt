@@ -4,10 +4,17 @@ use mathlib.Core.Bool.{Bool, true, not, cond, _&&_}
 use mathlib.Core.List.{List}
 use lib.Dec.{leb, eqb}
 use lib.IntN.{ℤ, pos}
+use lib.ListN.{replicate}
 use lib.Signed.{leZ}
 use Rattle.readings.specs.Places.{entry}
 use Rattle.law.specs.declared.Settings.{Settings}
 use Rattle.law.specs.Fixed.{minus}
+
+-- settings whose tables a caller has by themselves, each laid out as the field of its name. The law's calls do not look at the starting state: it
+-- holds 0 in each place
+abbrev pub settingsOf : (n m p : ℕ) (a l c k low high : List ℤ) → Settings
+settingsOf n m p a l c k low high =
+    record { n = n; m = m; p = p; a = a; l = l; c = c; k = k; low = low; high = high; start = replicate 6 (pos 0) }
 
 -- row i, column j of a table that is kept as one list, a row at every `stride` places
 abbrev pub cell : List ℤ → ℕ → ℕ → ℕ → ℤ

@@ -47,17 +47,35 @@ fn add_product(total: i64, coefficient: i32, x: i32) -> i64
     total + (coefficient as i64) * (x as i64)
 }
 
-// The sum over i below n of table(at + i) × x(i).
+// The sum over i below n of table(at + i) × x(i). Each product has a test of its own: a loop would be vectorised, for lengths that do not occur, and
+// take twice the instructions.
 pub(crate) fn sum_of_products(table: &[i32], at: usize, x: &[i32], n: usize) -> i64
     requires { ⌜ (n ≤ 6) × (at + n ≤ length (now table)) × (n ≤ length (now x)) × (every n (λ i. inRange (entry (now table) (at + i))) ≡ true) ⌝ }
     ensures value { λ r. ⌜ r ≡ sum n (λ i. entry (now (table .entry)) (at + i) *ℤ entry (now (x .entry)) i) ⌝ }
     ensures size { λ r. ⌜ natAbs r ≤ n * largestProduct ⌝ }
 {
-    let mut total: i64 = 0;
-    let mut i = 0;
-    while i < n {
-        total = add_product(total, table[at + i], x[i]);
-        i += 1;
+    if n < 1 {
+        return 0;
     }
-    total
+    let total = add_product(0, table[at], x[0]);
+    if n < 2 {
+        return total;
+    }
+    let total = add_product(total, table[at + 1], x[1]);
+    if n < 3 {
+        return total;
+    }
+    let total = add_product(total, table[at + 2], x[2]);
+    if n < 4 {
+        return total;
+    }
+    let total = add_product(total, table[at + 3], x[3]);
+    if n < 5 {
+        return total;
+    }
+    let total = add_product(total, table[at + 4], x[4]);
+    if n < 6 {
+        return total;
+    }
+    add_product(total, table[at + 5], x[5])
 }

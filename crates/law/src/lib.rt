@@ -3,19 +3,13 @@ mod commands;
 mod fixed;
 mod ranges;
 mod state;
+pub mod tables;
 
 ghost use mathlib.Core.Path.{_≡_};
-ghost use lib.Dec.{eqb};
 ghost use Rattle.law.specs.Answer.{number};
 ghost use Rattle.law.specs.Settings.{refusal};
 ghost use Rattle.law.specs.Law.{updated, commanded};
-use commands::command_values;
-use ranges::coefficients_in_range;
-use ranges::limits_in_order;
-use ranges::sizes_in_range;
 use readings::Readings;
-use state::innovations;
-use state::next_state;
 
 // n states, m readings and p commands. A(i,j) is a[i * 6 + j], L(i,j) is l[i * 4 + j], C(j,i) is c[j * 6 + i] and K(j,i) is k[j * 6 + i],
 // all counted from 0. Command j has the limits low[j] and high[j], and start is the starting state. Places beyond n, m and p are not looked at.
@@ -52,34 +46,33 @@ pub struct Commanded {
     pub values: [i32; 4],
 }
 
+// Document 01's number of an answer.
+pub fn number_of(answer: Answer) -> u8
+    ensures { λ r. ⌜ r ≡ number answer ⌝ }
+{
+    match answer {
+        Answer::Done => 0,
+        Answer::Sizes => 2,
+        Answer::Coefficient => 3,
+        Answer::Limits => 4,
+    }
+}
+
 // Whether the settings are refused, by the lowest number that refuses them.
 pub fn check(settings: Settings) -> Answer
     ensures { λ r. ⌜ number r ≡ refusal settings ⌝ }
 {
-    let n = settings.n;
-    let m = settings.m;
-    let p = settings.p;
-    if !sizes_in_range(n, m, p) {
-        return Answer::Sizes;
-    }
-    if !coefficients_in_range(&settings.a, &settings.l, &settings.c, &settings.k, n, m, p) {
-        return Answer::Coefficient;
-    }
-    if !limits_in_order(&settings.low, &settings.high, p) {
-        return Answer::Limits;
-    }
-    Answer::Done
-}
-
-fn is_done(answer: Answer) -> bool
-    ensures { λ r. ⌜ r ≡ eqb (number answer) 0 ⌝ }
-{
-    match answer {
-        Answer::Done => true,
-        Answer::Sizes => false,
-        Answer::Coefficient => false,
-        Answer::Limits => false,
-    }
+    tables::check(
+        settings.n,
+        settings.m,
+        settings.p,
+        &settings.a,
+        &settings.l,
+        &settings.c,
+        &settings.k,
+        &settings.low,
+        &settings.high,
+    )
 }
 
 // The state after one period with these readings.
@@ -87,18 +80,19 @@ pub fn update(settings: Settings, state: [i32; 6], readings: Readings) -> Update
     ensures answer { λ r. ⌜ number (r .answer) ≡ refusal settings ⌝ }
     ensures state { λ r. ⌜ r .state ≡ updated settings state readings ⌝ }
 {
-    let answer = check(settings);
-    if !is_done(answer) {
-        return Updated { answer, state };
-    }
-    let n = settings.n;
-    let m = settings.m;
-    let e = innovations(&settings.c, &state, n, m, readings);
-    let next = next_state(&settings.a, &settings.l, &state, &e, n, m);
-    Updated {
-        answer,
-        state: next,
-    }
+    tables::update(
+        settings.n,
+        settings.m,
+        settings.p,
+        &settings.a,
+        &settings.l,
+        &settings.c,
+        &settings.k,
+        &settings.low,
+        &settings.high,
+        &state,
+        readings,
+    )
 }
 
 // The commands of a state.
@@ -106,15 +100,16 @@ pub fn command(settings: Settings, state: [i32; 6]) -> Commanded
     ensures answer { λ r. ⌜ number (r .answer) ≡ refusal settings ⌝ }
     ensures values { λ r. ⌜ r .values ≡ commanded settings state ⌝ }
 {
-    let answer = check(settings);
-    if !is_done(answer) {
-        return Commanded {
-            answer,
-            values: [0; 4],
-        };
-    }
-    let n = settings.n;
-    let p = settings.p;
-    let values = command_values(&settings.k, &settings.low, &settings.high, &state, n, p);
-    Commanded { answer, values }
+    tables::command(
+        settings.n,
+        settings.m,
+        settings.p,
+        &settings.a,
+        &settings.l,
+        &settings.c,
+        &settings.k,
+        &settings.low,
+        &settings.high,
+        &state,
+    )
 }

@@ -1,6 +1,5 @@
-// Tests of the settings. A loop over a table has no way out before its end, so that it can be vectorised.
+// Tests of the settings.
 ghost use mathlib.Core.Path.{_≡_};
-ghost use mathlib.Core.Bool.{_&&_};
 ghost use Prim.Native.Nat.{_+_, _*_, _≤_};
 ghost use lib.ListN.{length};
 ghost use lib.Signed.{leZ};
@@ -20,11 +19,11 @@ pub(crate) fn sizes_in_range(n: usize, m: usize, p: usize) -> bool
     is_one_to(6, n) & is_one_to(4, m) & is_one_to(4, p)
 }
 
-// Whether the others are in range and this coefficient is too.
-fn also_in_range(others: bool, coefficient: i32) -> bool
-    ensures { λ r. ⌜ r ≡ others && inRange coefficient ⌝ }
+// Whether a coefficient is in its range.
+fn in_range(coefficient: i32) -> bool
+    ensures { λ r. ⌜ r ≡ inRange coefficient ⌝ }
 {
-    others & ((-16777216 <= coefficient) & (coefficient <= 16777216))
+    (-16777216 <= coefficient) & (coefficient <= 16777216)
 }
 
 // Whether the coefficients table(at) to table(at + n - 1) are in their range.
@@ -32,27 +31,58 @@ fn row_in_range(table: &[i32], at: usize, n: usize) -> bool
     requires { ⌜ at + n ≤ length (now table) ⌝ }
     ensures { λ r. ⌜ r ≡ every n (λ j. inRange (entry (now (table .entry)) (at + j))) ⌝ }
 {
-    let mut all = true;
     let mut j = 0;
     while j < n {
-        all = also_in_range(all, table[at + j]);
+        if !in_range(table[at + j]) {
+            return false;
+        }
         j += 1;
+    }
+    true
+}
+
+// Whether the coefficients in the first rows and columns of a table are in their range.
+fn rows_in_range(table: &[i32], stride: usize, rows: usize, columns: usize) -> bool
+    requires { ⌜ (rows ≤ 6) × (columns ≤ stride) × (stride ≤ 6) × (rows * stride ≤ length (now table)) ⌝ }
+    ensures { λ r. ⌜ r ≡ tableInRange (cell (now (table .entry)) stride) rows columns ⌝ }
+{
+    let mut i = 0;
+    while i < rows {
+        if !row_in_range(table, i * stride, columns) {
+            return false;
+        }
+        i += 1;
+    }
+    true
+}
+
+// Whether what stands in the first places of a table is in the range of a coefficient. The loop has no way out before its end, so that it can be
+// vectorised.
+fn places_in_range(table: &[i32], places: usize) -> bool
+    requires { ⌜ places ≤ length (now table) ⌝ }
+    ensures { λ r. ⌜ r ≡ every places (λ i. inRange (entry (now (table .entry)) i)) ⌝ }
+{
+    let mut all = true;
+    let mut i = 0;
+    while i < places {
+        all = all & in_range(table[i]);
+        i += 1;
     }
     all
 }
 
-// Whether the coefficients of a table are in their range.
-fn table_in_range(table: &[i32], stride: usize, rows: usize, columns: usize) -> bool
-    requires { ⌜ (rows ≤ 6) × (columns ≤ stride) × (stride ≤ 6) × (rows * stride ≤ length (now table)) ⌝ }
+// Whether the coefficients of a table are in their range. Where there are more than a few, all its places are looked at first, which takes fewer
+// instructions: only where one of them is out of range does it matter which are in use.
+fn table_in_range(table: &[i32], places: usize, stride: usize, rows: usize, columns: usize) -> bool
+    requires { ⌜ (rows ≤ 6) × (columns ≤ stride) × (stride ≤ 6) × (rows * stride ≤ places) × (places ≤ length (now table)) ⌝ }
     ensures { λ r. ⌜ r ≡ tableInRange (cell (now (table .entry)) stride) rows columns ⌝ }
 {
-    let mut all = true;
-    let mut i = 0;
-    while i < rows {
-        all = all & row_in_range(table, i * stride, columns);
-        i += 1;
+    if 4 < rows + columns {
+        if places_in_range(table, places) {
+            return true;
+        }
     }
-    all
+    rows_in_range(table, stride, rows, columns)
 }
 
 // Whether the coefficients of the four tables are in their range.
@@ -68,17 +98,23 @@ pub(crate) fn coefficients_in_range<'a>(
     requires { ⌜ (n ≤ 6) × (m ≤ 4) × (p ≤ 4) × (36 ≤ length (now a)) × (24 ≤ length (now l)) × (24 ≤ length (now c)) × (24 ≤ length (now k)) ⌝ }
     ensures { λ r. ⌜ r ≡ coefficientsInRange (cell (now (a .entry)) 6) (cell (now (l .entry)) 4) (cell (now (c .entry)) 6) (cell (now (k .entry)) 6) n m p ⌝ }
 {
-    table_in_range(a, 6, n, n)
-        & table_in_range(l, 4, n, m)
-        & table_in_range(c, 6, m, n)
-        & table_in_range(k, 6, p, n)
+    if !table_in_range(a, 36, 6, n, n) {
+        return false;
+    }
+    if !table_in_range(l, 24, 4, n, m) {
+        return false;
+    }
+    if !table_in_range(c, 24, 6, m, n) {
+        return false;
+    }
+    table_in_range(k, 24, 6, p, n)
 }
 
-// Whether the others are in order and these limits are too.
-fn also_in_order(others: bool, low: i32, high: i32) -> bool
-    ensures { λ r. ⌜ r ≡ others && leZ low high ⌝ }
+// Whether a lower limit is not above its upper.
+fn in_order(low: i32, high: i32) -> bool
+    ensures { λ r. ⌜ r ≡ leZ low high ⌝ }
 {
-    others & (low <= high)
+    low <= high
 }
 
 // Whether no lower limit of the first p commands is above its upper.
@@ -86,11 +122,12 @@ pub(crate) fn limits_in_order<'a>(low: &'a [i32], high: &'a [i32], p: usize) -> 
     requires { ⌜ (p ≤ length (now low)) × (p ≤ length (now high)) ⌝ }
     ensures { λ r. ⌜ r ≡ limitsInOrder (entry (now (low .entry))) (entry (now (high .entry))) p ⌝ }
 {
-    let mut all = true;
     let mut j = 0;
     while j < p {
-        all = also_in_order(all, low[j], high[j]);
+        if !in_order(low[j], high[j]) {
+            return false;
+        }
         j += 1;
     }
-    all
+    true
 }

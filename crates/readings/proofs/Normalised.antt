@@ -7,7 +7,7 @@ use lib.ListN.{length, getD, replicate}
 use lib.IntN.{ℤ, pos}
 use Rattle.readings.specs.declared.Readings.{Readings}
 use Rattle.readings.specs.Places.{entry}
-use Rattle.readings.specs.Readings.{present, value, normalised}
+use Rattle.readings.specs.Readings.{present, value, normalised, noReadings}
 use Rattle.readings.proofs.Places.{filled-at, filled-length, filled-same, filled-each, filled-blank, blank-at}
 
 module _ (m : ℕ) (y : Readings) where
@@ -50,7 +50,7 @@ module _ (m : ℕ) (y : Readings) where
       read false i = z
 
 -- no reading is read as no reading
-pub normalised-none : (m : ℕ) → normalised m (record { present = replicate 4 false; values = replicate 4 (pos 0) }) ≡ record { present = replicate 4 false; values = replicate 4 (pos 0) }
+pub normalised-none : (m : ℕ) → normalised m noReadings ≡ noReadings
 unfolding normalised
 normalised-none m =
     ap₂ (λ (p : List Bool) (v : List ℤ). record { present = p; values = v })

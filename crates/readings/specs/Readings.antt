@@ -2,7 +2,7 @@
 use Prim.Native.Nat.{ℕ}
 use mathlib.Core.Bool.{Bool, false, cond, _||_}
 use mathlib.Core.List.{List, [], _∷_}
-use lib.ListN.{getD, drop}
+use lib.ListN.{getD, drop, replicate}
 use lib.IntN.{ℤ, pos}
 use Rattle.readings.specs.declared.Readings.{Readings}
 use Rattle.readings.specs.Places.{entry, filled}
@@ -18,6 +18,10 @@ value y j = cond (present y j) (entry (y .values) j) (pos 0)
 -- the row as the law and the frames read it: "Places of a table or list beyond n, m and p are not looked at"
 unfoldable pub normalised : ℕ → Readings → Readings
 normalised m y = record { present = filled false 4 m (present y); values = filled (pos 0) 4 m (value y) }
+
+-- no reading: no mark, and 0 in every place
+abbrev pub noReadings : Readings
+noReadings = record { present = replicate 4 false; values = replicate 4 (pos 0) }
 
 -- whether a mark of the list is set
 unfoldable pub anyMark : List Bool → Bool

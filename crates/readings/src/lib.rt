@@ -3,12 +3,22 @@ ghost use mathlib.Core.Path.{_≡_};
 ghost use mathlib.Core.Bool.{cond};
 ghost use Prim.Native.Nat.{_≤_};
 ghost use lib.IntN.{pos};
-ghost use Rattle.readings.specs.Readings.{normalised, strayMark};
+ghost use Rattle.readings.specs.Readings.{normalised, noReadings, strayMark};
 
 // Place j holds the present mark and the value of reading j, counted from 0.
 pub struct Readings {
     pub present: [bool; 4],
     pub values: [i32; 4],
+}
+
+// No mark, and 0 in every place.
+pub fn no_readings() -> Readings
+    ensures { λ r. ⌜ r ≡ noReadings ⌝ }
+{
+    Readings {
+        present: [false; 4],
+        values: [0i32; 4],
+    }
 }
 
 // A value under its mark.

@@ -2,18 +2,21 @@
 use mathlib.Core.Path.{_≡_, refl, sym, ap, subst}
 use mathlib.Core.Bool.{Bool, true, false, true≢false, false≢true}
 use mathlib.Core.List.{List, [], _∷_}
+use mathlib.Core.Option.{none}
 use Prim.Native.Nat.{ℕ}
 use native.Mathlib.Omega.{arith}
 use lib.ListN.{length}
 use lib.IntN.{ℤ}
 use Rattle.readings.specs.declared.Readings.{Readings}
+use Rattle.scram.specs.declared.Answer.the-variants.{Done}
+use Rattle.scram.specs.Replica as Scram
 use Rattle.scram.specs.Replica.{Outcome}
-use Rattle.scram.specs.Events.{pick, refusing, ignoring}
+use Rattle.scram.specs.Events.{pick, refusing, ignoring, doing}
 use Rattle.frame.specs.Bytes.{over}
 use Rattle.replica.specs.declared.Settings.{Settings}
 use Rattle.replica.specs.declared.Replica.{Replica}
 use Rattle.replica.specs.declared.Stepped.{Stepped}
-use Rattle.replica.specs.Held.{held}
+use Rattle.replica.specs.Held.{held, replicaOf}
 use Rattle.replica.specs.Frames.{sentBytes, issuedBytes}
 use Rattle.replica.specs.Calls.{checked, stepRefusal, Gives}
 use Rattle.replica.specs.Rules.{tickRefusal, refusedStep, ignoredStep}
@@ -25,6 +28,11 @@ module _ (r : Replica) (frame command : List ℕ) where
 
   pub gives-ignored : Gives (r .settings) (ignoring (held r)) (ignoredStep r) frame frame command command
   gives-ignored = record { answer = refl; replica = refl; frame-length = refl; command-length = refl; frame-bytes = refl; command-bytes = refl }
+
+-- a step that is done and writes nothing
+pub gives-done : {s : Settings} {h : Scram.Replica (List ℤ) Readings} {next : Replica} {frame command : List ℕ} → next ≡ replicaOf s h
+    → Gives s (doing h none none) (record { answer = Done; replica = next; frame = 0; command = 0 }) frame frame command command
+gives-done e = record { answer = refl; replica = e; frame-length = refl; command-length = refl; frame-bytes = refl; command-bytes = refl }
 
 -- what leaves an empty area empty is nothing
 nothing : (written : List ℕ) → [] ≡ over written [] → written ≡ []

@@ -1,3 +1,4 @@
+-- Laws of settings that are accepted, of the calls and of what they write.
 pub mod Accepted
 pub mod Calls
 pub mod Given

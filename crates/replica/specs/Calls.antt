@@ -14,10 +14,11 @@ use Rattle.scram.specs.Replica.{Outcome, fresh}
 use Rattle.scram.specs.Events as Events
 use Rattle.scram.specs.Events.{pick, refusing}
 use Rattle.frame.specs.Bytes.{over}
+use Rattle.frame.specs.Fields.{noState}
 use Rattle.replica.specs.declared.Settings.{Settings}
 use Rattle.replica.specs.declared.Replica.{Replica}
 use Rattle.replica.specs.declared.Stepped.{Stepped}
-use Rattle.replica.specs.Settings.{settingsRefusal, noState, lawOf, groupOf}
+use Rattle.replica.specs.Settings.{settingsRefusal, lawOf, groupOf}
 use Rattle.replica.specs.Held.{held, replicaOf}
 use Rattle.replica.specs.Frames.{found, sentBytes, issuedBytes}
 

@@ -1,17 +1,14 @@
 // Frames that arrive: what is refused by 8 to 11, what is ignored, and the rules of the four kinds.
 ghost use mathlib.Core.Path.{_≡_};
-ghost use mathlib.Core.Bool.{true, false};
+ghost use mathlib.Core.Bool.{true};
 ghost use mathlib.Core.List.{[]};
 ghost use Prim.Native.Nat.{_≤_, _<_};
 ghost use lib.ListN.{length};
-ghost use lib.Dec.{eqb};
 ghost use Rattle.frame.specs.Answers.{number};
-ghost use Rattle.scram.specs.Events as Events;
-ghost use Rattle.replica.specs.Settings.{settingsRefusal, lawOf, groupOf};
-ghost use Rattle.replica.specs.Held.{heldBest, held};
-ghost use Rattle.replica.specs.Frames.{kindOf, messageOf, found};
+ghost use Rattle.replica.specs.Settings.{settingsRefusal};
+ghost use Rattle.replica.specs.Frames.{kindOf};
 ghost use Rattle.replica.specs.Calls.{Gives};
-ghost use Rattle.replica.specs.Rules.{majorityHeard, decided};
+ghost use Rattle.replica.specs.Rules.{majorityHeard, decided, received, ackHeard, estimateHeard, isIgnored, arrived, bytesArrived};
 use crate::Best;
 use crate::Replica;
 use crate::Stepped;
@@ -19,7 +16,6 @@ use crate::moves::adopting;
 use crate::moves::better;
 use crate::moves::entered;
 use crate::moves::hearing;
-use crate::moves::no_readings;
 use crate::moves::with_box;
 use crate::output::issue;
 use crate::output::send;
@@ -49,12 +45,12 @@ fn kind_of(number: u8) -> Kind
 // A Propose: its view and estimate are adopted, and an Ack goes back.
 fn receive_propose(replica: Replica, f: Frame, frame: &mut [u8]) -> Stepped
     requires { ⌜ (settingsRefusal (replica .settings) ≡ 0) × (69 ≤ length (now frame)) ⌝ }
-    ensures { λ r. ⌜ Gives (replica .settings) (Events.receive (lawOf (replica .settings)) (groupOf (replica .settings)) (replica .settings .own) Kind.Propose (held replica) (messageOf f)) r (now (frame .entry)) (now (frame .exit)) [] [] ⌝ }
+    ensures { λ r. ⌜ Gives (replica .settings) (received replica Kind.Propose f) r (now (frame .entry)) (now (frame .exit)) [] [] ⌝ }
 {
     let state = f.state;
     let adopted = f.readings;
     let next = adopting(replica, f.view, state, adopted, replica.decided);
-    let readings = no_readings();
+    let readings = readings::no_readings();
     let ack = Frame {
         kind: 2,
         sender: replica.settings.own,
@@ -93,13 +89,8 @@ fn decide(replica: Replica, box_number: u8, frame: &mut [u8], command: &mut [u8]
         state,
         readings,
     };
-    let sent = send(
-        replica.settings.law.n,
-        replica.settings.law.m,
-        decision,
-        frame,
-    );
     let law = replica.settings.law;
+    let sent = send(law.n, law.m, decision, frame);
     let issued = issue(law, replica.period, state, readings, command);
     Stepped {
         answer: Answer::Done,
@@ -123,7 +114,7 @@ fn majority_heard(replica: Replica, box_number: u8) -> bool
 // An Ack: at a majority the box decides.
 fn hear_ack(replica: Replica, box_number: u8, frame: &mut [u8], command: &mut [u8]) -> Stepped
     requires { ⌜ (settingsRefusal (replica .settings) ≡ 0) × (69 ≤ length (now frame)) × (24 ≤ length (now command)) × («box_number» < 10) ⌝ }
-    ensures { λ r. ⌜ Gives (replica .settings) (Events.hearAck (lawOf (replica .settings)) (groupOf (replica .settings)) (replica .settings .own) (held replica) «box_number») r (now (frame .entry)) (now (frame .exit)) (now (command .entry)) (now (command .exit)) ⌝ }
+    ensures { λ r. ⌜ Gives (replica .settings) (ackHeard replica «box_number») r (now (frame .entry)) (now (frame .exit)) (now (command .entry)) (now (command .exit)) ⌝ }
 {
     if majority_heard(replica, box_number) {
         return decide(replica, box_number, frame, command);
@@ -141,7 +132,7 @@ fn hear_ack(replica: Replica, box_number: u8, frame: &mut [u8], command: &mut [u
 // A Decide: adopted like a Propose; the box decides and issues the command.
 fn receive_decide(replica: Replica, f: Frame, command: &mut [u8]) -> Stepped
     requires { ⌜ (settingsRefusal (replica .settings) ≡ 0) × (24 ≤ length (now command)) ⌝ }
-    ensures { λ r. ⌜ Gives (replica .settings) (Events.receive (lawOf (replica .settings)) (groupOf (replica .settings)) (replica .settings .own) Kind.Decide (held replica) (messageOf f)) r [] [] (now (command .entry)) (now (command .exit)) ⌝ }
+    ensures { λ r. ⌜ Gives (replica .settings) (received replica Kind.Decide f) r [] [] (now (command .entry)) (now (command .exit)) ⌝ }
 {
     let state = f.state;
     let readings = f.readings;
@@ -159,7 +150,7 @@ fn receive_decide(replica: Replica, f: Frame, command: &mut [u8]) -> Stepped
 // An estimate heard: at a majority the best is taken whole and proposed.
 fn hear_estimate(replica: Replica, estimate: Best, frame: &mut [u8]) -> Stepped
     requires { ⌜ (settingsRefusal (replica .settings) ≡ 0) × (69 ≤ length (now frame)) × (estimate .«box_number» < 10) ⌝ }
-    ensures { λ r. ⌜ Gives (replica .settings) (Events.hearEstimate (lawOf (replica .settings)) (groupOf (replica .settings)) (replica .settings .own) (held replica) (heldBest estimate)) r (now (frame .entry)) (now (frame .exit)) [] [] ⌝ }
+    ensures { λ r. ⌜ Gives (replica .settings) (estimateHeard replica estimate) r (now (frame .entry)) (now (frame .exit)) [] [] ⌝ }
 {
     let before = replica.best;
     let best = better(before, estimate);
@@ -181,7 +172,7 @@ fn hear_estimate(replica: Replica, estimate: Best, frame: &mut [u8]) -> Stepped
 // An Estimate: at a higher view the box first enters it.
 fn receive_estimate(replica: Replica, f: Frame, frame: &mut [u8]) -> Stepped
     requires { ⌜ (settingsRefusal (replica .settings) ≡ 0) × (69 ≤ length (now frame)) × (f .sender < 10) ⌝ }
-    ensures { λ r. ⌜ Gives (replica .settings) (Events.receive (lawOf (replica .settings)) (groupOf (replica .settings)) (replica .settings .own) Kind.Estimate (held replica) (messageOf f)) r (now (frame .entry)) (now (frame .exit)) [] [] ⌝ }
+    ensures { λ r. ⌜ Gives (replica .settings) (received replica Kind.Estimate f) r (now (frame .entry)) (now (frame .exit)) [] [] ⌝ }
 {
     let state = f.state;
     let readings = f.readings;
@@ -202,7 +193,7 @@ fn receive_estimate(replica: Replica, f: Frame, frame: &mut [u8]) -> Stepped
 // A frame that is neither refused nor ignored.
 fn receive(replica: Replica, kind: Kind, f: Frame, frame: &mut [u8], command: &mut [u8]) -> Stepped
     requires { ⌜ (settingsRefusal (replica .settings) ≡ 0) × (69 ≤ length (now frame)) × (24 ≤ length (now command)) × (f .sender < 10) ⌝ }
-    ensures { λ r. ⌜ Gives (replica .settings) (Events.receive (lawOf (replica .settings)) (groupOf (replica .settings)) (replica .settings .own) kind (held replica) (messageOf f)) r (now (frame .entry)) (now (frame .exit)) (now (command .entry)) (now (command .exit)) ⌝ }
+    ensures { λ r. ⌜ Gives (replica .settings) (received replica kind f) r (now (frame .entry)) (now (frame .exit)) (now (command .entry)) (now (command .exit)) ⌝ }
 {
     match kind {
         Kind::Propose => receive_propose(replica, f, frame),
@@ -215,7 +206,7 @@ fn receive(replica: Replica, kind: Kind, f: Frame, frame: &mut [u8], command: &m
 // Whether a frame is ignored.
 fn ignores(replica: Replica, kind: Kind, f: Frame) -> bool
     requires { ⌜ (f .sender < 10) × (kind ≡ kindOf (f .kind)) ⌝ }
-    ensures { λ r. ⌜ r ≡ Events.ignores (lawOf (replica .settings)) (groupOf (replica .settings)) (replica .settings .own) (held replica) (messageOf f) ⌝ }
+    ensures { λ r. ⌜ r ≡ isIgnored replica f ⌝ }
 {
     if scram::ignored::idle(replica.period, replica.decided) {
         return true;
@@ -232,7 +223,7 @@ fn ignores(replica: Replica, kind: Kind, f: Frame) -> bool
 // A frame that was read: 9 to 11, then the grounds for ignoring, then its rule.
 fn arrive_frame(replica: Replica, f: Frame, frame: &mut [u8], command: &mut [u8]) -> Stepped
     requires { ⌜ (settingsRefusal (replica .settings) ≡ 0) × (69 ≤ length (now frame)) × (24 ≤ length (now command)) ⌝ }
-    ensures { λ r. ⌜ Gives (replica .settings) (Events.arrive (lawOf (replica .settings)) (groupOf (replica .settings)) (replica .settings .own) (held replica) (messageOf f)) r (now (frame .entry)) (now (frame .exit)) (now (command .entry)) (now (command .exit)) ⌝ }
+    ensures { λ r. ⌜ Gives (replica .settings) (arrived replica f) r (now (frame .entry)) (now (frame .exit)) (now (command .entry)) (now (command .exit)) ⌝ }
 {
     let n = replica.settings.boxes;
     let own = replica.settings.own;
@@ -261,27 +252,15 @@ pub(crate) fn arrive_bytes(
     command: &mut [u8],
 ) -> Stepped
     requires { ⌜ (settingsRefusal (replica .settings) ≡ 0) × (69 ≤ length (now frame)) × (24 ≤ length (now command)) ⌝ }
-    ensures { λ r. ⌜ Gives (replica .settings) (Events.arrival (lawOf (replica .settings)) (groupOf (replica .settings)) (replica .settings .own) (held replica) (found (replica .settings) (now (bytes .entry)))) r (now (frame .entry)) (now (frame .exit)) (now (command .entry)) (now (command .exit)) ⌝ }
+    ensures { λ r. ⌜ Gives (replica .settings) (bytesArrived replica (now (bytes .entry))) r (now (frame .entry)) (now (frame .exit)) (now (command .entry)) (now (command .exit)) ⌝ }
 {
     let n = replica.settings.law.n;
     let m = replica.settings.law.m;
     let parsed = frame::read(n, m, bytes);
     let answer = parsed.answer;
-    if !was_read(answer) {
+    if frame::number_of(answer) != 0 {
         return refused(replica, 8);
     }
     let f = parsed.frame;
     arrive_frame(replica, f, frame, command)
-}
-
-// Whether reading refused nothing.
-fn was_read(answer: frame::Answer) -> bool
-    ensures { λ r. ⌜ r ≡ eqb (number answer) 0 ⌝ }
-{
-    match answer {
-        frame::Answer::Done => true,
-        frame::Answer::Sizes => false,
-        frame::Answer::Area => false,
-        frame::Answer::Malformed => false,
-    }
 }

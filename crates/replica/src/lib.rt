@@ -90,7 +90,8 @@ impl Replica {
 
     // A tick with readings.
     pub fn tick(self, readings: Readings, frame: &mut [u8], command: &mut [u8]) -> Stepped
-        ensures { λ r. ⌜ Gives (self .settings) (tickOutcome self readings (length (now (frame .entry))) (length (now (command .entry)))) r (now (frame .entry)) (now (frame .exit)) (now (command .entry)) (now (command .exit)) ⌝ }
+        ensures { λ r. ⌜ Gives (self .settings) (tickOutcome self readings (length (now (frame .entry))) (length (now (command .entry))))
+            r (now (frame .entry)) (now (frame .exit)) (now (command .entry)) (now (command .exit)) ⌝ }
     {
         let number = step_refusal(self, frame.len(), command.len());
         if number != 0 {
@@ -105,7 +106,8 @@ impl Replica {
 
     // The view is given up.
     pub fn give_up(self, frame: &mut [u8], command: &mut [u8]) -> Stepped
-        ensures { λ r. ⌜ Gives (self .settings) (giveUpOutcome self (length (now (frame .entry))) (length (now (command .entry)))) r (now (frame .entry)) (now (frame .exit)) (now (command .entry)) (now (command .exit)) ⌝ }
+        ensures { λ r. ⌜ Gives (self .settings) (giveUpOutcome self (length (now (frame .entry))) (length (now (command .entry))))
+            r (now (frame .entry)) (now (frame .exit)) (now (command .entry)) (now (command .exit)) ⌝ }
     {
         let number = step_refusal(self, frame.len(), command.len());
         if number != 0 {
@@ -116,7 +118,8 @@ impl Replica {
 
     // Bytes that arrive as a frame.
     pub fn arrive(self, bytes: &[u8], frame: &mut [u8], command: &mut [u8]) -> Stepped
-        ensures { λ r. ⌜ Gives (self .settings) (arriveOutcome self (now (bytes .entry)) (length (now (frame .entry))) (length (now (command .entry)))) r (now (frame .entry)) (now (frame .exit)) (now (command .entry)) (now (command .exit)) ⌝ }
+        ensures { λ r. ⌜ Gives (self .settings) (arriveOutcome self (now (bytes .entry)) (length (now (frame .entry))) (length (now (command .entry))))
+            r (now (frame .entry)) (now (frame .exit)) (now (command .entry)) (now (command .exit)) ⌝ }
     {
         let number = step_refusal(self, frame.len(), command.len());
         if number != 0 {

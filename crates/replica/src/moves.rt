@@ -7,7 +7,7 @@ ghost use lib.IntN.{pos};
 ghost use Rattle.scram.specs.Replica as Scram;
 ghost use Rattle.scram.specs.Events as Events;
 ghost use Rattle.scram.specs.Quorum.{nobody, with};
-ghost use Rattle.replica.specs.Settings.{noReadings, lawOf};
+ghost use Rattle.replica.specs.Settings.{lawOf};
 ghost use Rattle.replica.specs.Held.{heldBest, held, bestOf, replicaOf};
 ghost use Rattle.replica.specs.Calls.{blankSettings};
 use crate::Best;
@@ -15,21 +15,11 @@ use crate::Replica;
 use crate::Settings;
 use readings::Readings;
 
-// No mark, and 0 in every place.
-pub(crate) fn no_readings() -> Readings
-    ensures { λ r. ⌜ r ≡ noReadings ⌝ }
-{
-    Readings {
-        present: [false; 4],
-        values: [0i32; 4],
-    }
-}
-
 // No estimate heard yet.
 fn no_best() -> Best
     ensures { λ r. ⌜ r ≡ bestOf (Scram.noBest (lawOf blankSettings)) ⌝ }
 {
-    let readings = no_readings();
+    let readings = readings::no_readings();
     Best {
         any: false,
         box_number: 0,
@@ -108,7 +98,7 @@ pub(crate) fn fresh(settings: Settings) -> Replica
     let start = settings.law.start;
     let n = settings.law.n;
     let state = first_values(start, n);
-    let readings = no_readings();
+    let readings = readings::no_readings();
     let best = no_best();
     Replica {
         settings,

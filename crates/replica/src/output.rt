@@ -4,13 +4,12 @@ ghost use mathlib.Core.Bool.{true};
 ghost use Prim.Native.Nat.{_≤_};
 ghost use lib.ListN.{length};
 ghost use Rattle.law.specs.Settings.{refusal};
-ghost use Rattle.law.specs.Law.{updated, commanded};
 ghost use Rattle.frame.specs.Bytes.{over};
 ghost use Rattle.frame.specs.Sizes.{sizesOk};
 ghost use Rattle.frame.specs.Format.{frameBytes};
 ghost use Rattle.frame.specs.Reading.{kindOk};
-ghost use Rattle.frame.specs.Command.{commandBytes};
 ghost use Rattle.replica.specs.Frames.{asCarried};
+ghost use Rattle.replica.specs.Rules.{commandIssued};
 use frame::Frame;
 use readings::Readings;
 
@@ -36,7 +35,7 @@ pub(crate) fn issue(
     area: &mut [u8],
 ) -> usize
     requires { ⌜ (refusal law ≡ 0) × (24 ≤ length (now area)) ⌝ }
-    ensures { λ r. ⌜ (r ≡ length (commandBytes (law .p) period (commanded law (updated law state readings)))) × (now (area .exit) ≡ over (commandBytes (law .p) period (commanded law (updated law state readings))) (now (area .entry))) ⌝ }
+    ensures { λ r. ⌜ (r ≡ length (commandIssued law period state readings)) × (now (area .exit) ≡ over (commandIssued law period state readings) (now (area .entry))) ⌝ }
 {
     let updated = law::update(law, state, readings);
     let next = updated.state;

@@ -1,6 +1,5 @@
 // Refusals 1 to 7 and 12, which need no frame: the settings, the lent areas, and the tick.
 ghost use mathlib.Core.Path.{_≡_};
-ghost use Rattle.law.specs.Answer.{number};
 ghost use Rattle.replica.specs.Settings.{badGroup, settingsRefusal};
 ghost use Rattle.replica.specs.Calls.{shortArea, stepRefusal};
 ghost use Rattle.replica.specs.Rules.{tickRefusal, refusedStep, ignoredStep};
@@ -26,18 +25,6 @@ fn bad_group(n: u8, own: u8) -> bool
     n < own
 }
 
-// The number of an answer of the law.
-fn law_number(answer: law::Answer) -> u8
-    ensures { λ r. ⌜ r ≡ number answer ⌝ }
-{
-    match answer {
-        law::Answer::Done => 0,
-        law::Answer::Sizes => 2,
-        law::Answer::Coefficient => 3,
-        law::Answer::Limits => 4,
-    }
-}
-
 // The number of the refusal of settings, or 0.
 pub(crate) fn settings_refusal(s: Settings) -> u8
     ensures { λ r. ⌜ r ≡ settingsRefusal s ⌝ }
@@ -46,7 +33,7 @@ pub(crate) fn settings_refusal(s: Settings) -> u8
         return 1;
     }
     let law = s.law;
-    law_number(law::check(law))
+    law::number_of(law::check(law))
 }
 
 // 5: an area is shorter than the longest frame or command.

@@ -4,11 +4,9 @@ ghost use mathlib.Core.Bool.{true, not, _&&_};
 ghost use mathlib.Core.List.{[]};
 ghost use Prim.Native.Nat.{_≤_, _<_};
 ghost use lib.ListN.{length};
-ghost use Rattle.scram.specs.Events as Events;
-ghost use Rattle.replica.specs.Settings.{settingsRefusal, lawOf, groupOf};
-ghost use Rattle.replica.specs.Held.{held};
+ghost use Rattle.replica.specs.Settings.{settingsRefusal};
 ghost use Rattle.replica.specs.Calls.{Gives};
-ghost use Rattle.replica.specs.Rules.{followed};
+ghost use Rattle.replica.specs.Rules.{leading, proposed, followed, raised, afterTick, givenUp};
 use crate::Replica;
 use crate::Stepped;
 use crate::moves::entered;
@@ -22,8 +20,8 @@ use readings::Readings;
 use scram::Answer;
 
 // Whether a replica's box coordinates a view.
-pub(crate) fn leads(replica: Replica, view: u32) -> bool
-    ensures { λ r. ⌜ r ≡ Events.leads (lawOf (replica .settings)) (groupOf (replica .settings)) (replica .settings .own) view ⌝ }
+fn leads(replica: Replica, view: u32) -> bool
+    ensures { λ r. ⌜ r ≡ leading replica view ⌝ }
 {
     replica.settings.own == scram::quorum::coordinator(replica.settings.boxes, view)
 }
@@ -36,7 +34,7 @@ pub(crate) fn propose(
     frame: &mut [u8],
 ) -> Stepped
     requires { ⌜ (settingsRefusal (replica .settings) ≡ 0) × (69 ≤ length (now frame)) ⌝ }
-    ensures { λ r. ⌜ Gives (replica .settings) (Events.propose (lawOf (replica .settings)) (groupOf (replica .settings)) (replica .settings .own) (held replica) state readings) r (now (frame .entry)) (now (frame .exit)) [] [] ⌝ }
+    ensures { λ r. ⌜ Gives (replica .settings) (proposed replica state readings) r (now (frame .entry)) (now (frame .exit)) [] [] ⌝ }
 {
     let own = replica.settings.own;
     let n = replica.settings.law.n;
@@ -52,12 +50,7 @@ pub(crate) fn propose(
         state,
         readings,
     };
-    let length = send(
-        replica.settings.law.n,
-        replica.settings.law.m,
-        proposal,
-        frame,
-    );
+    let length = send(n, m, proposal, frame);
     Stepped {
         answer: Answer::Done,
         replica: next,
@@ -87,12 +80,7 @@ fn follow(replica: Replica, view: u32, frame: &mut [u8]) -> Stepped
         state,
         readings,
     };
-    let length = send(
-        replica.settings.law.n,
-        replica.settings.law.m,
-        estimate,
-        frame,
-    );
+    let length = send(n, m, estimate, frame);
     Stepped {
         answer: Answer::Done,
         replica: next,
@@ -102,9 +90,9 @@ fn follow(replica: Replica, view: u32, frame: &mut [u8]) -> Stepped
 }
 
 // The view is raised by 1.
-pub(crate) fn raise(replica: Replica, frame: &mut [u8]) -> Stepped
+fn raise(replica: Replica, frame: &mut [u8]) -> Stepped
     requires { ⌜ (settingsRefusal (replica .settings) ≡ 0) × (69 ≤ length (now frame)) × (replica .view < 4294967295) ⌝ }
-    ensures { λ r. ⌜ Gives (replica .settings) (Events.raise (lawOf (replica .settings)) (groupOf (replica .settings)) (replica .settings .own) (held replica)) r (now (frame .entry)) (now (frame .exit)) [] [] ⌝ }
+    ensures { λ r. ⌜ Gives (replica .settings) (raised replica) r (now (frame .entry)) (now (frame .exit)) [] [] ⌝ }
 {
     let view = replica.view + 1;
     if leads(replica, view) {
@@ -122,7 +110,7 @@ pub(crate) fn raise(replica: Replica, frame: &mut [u8]) -> Stepped
 // What follows a tick: in view-change mode the view is raised, in normal mode a coordinator proposes.
 pub(crate) fn after_tick(replica: Replica, frame: &mut [u8]) -> Stepped
     requires { ⌜ (settingsRefusal (replica .settings) ≡ 0) × (69 ≤ length (now frame)) × (replica .«view_change» ≡ true → replica .view < 4294967295) ⌝ }
-    ensures { λ r. ⌜ Gives (replica .settings) (Events.afterTick (lawOf (replica .settings)) (groupOf (replica .settings)) (replica .settings .own) (held replica)) r (now (frame .entry)) (now (frame .exit)) [] [] ⌝ }
+    ensures { λ r. ⌜ Gives (replica .settings) (afterTick replica) r (now (frame .entry)) (now (frame .exit)) [] [] ⌝ }
 {
     if replica.view_change {
         return raise(replica, frame);
@@ -143,7 +131,7 @@ pub(crate) fn after_tick(replica: Replica, frame: &mut [u8]) -> Stepped
 // Giving up the view raises it, unless the box coordinates it in normal mode.
 pub(crate) fn give_up_view(replica: Replica, frame: &mut [u8]) -> Stepped
     requires { ⌜ (settingsRefusal (replica .settings) ≡ 0) × (69 ≤ length (now frame)) ⌝ }
-    ensures { λ r. ⌜ Gives (replica .settings) (Events.giveUp (lawOf (replica .settings)) (groupOf (replica .settings)) (replica .settings .own) (held replica)) r (now (frame .entry)) (now (frame .exit)) [] [] ⌝ }
+    ensures { λ r. ⌜ Gives (replica .settings) (givenUp replica) r (now (frame .entry)) (now (frame .exit)) [] [] ⌝ }
 {
     if scram::ignored::idle(replica.period, replica.decided) {
         return ignored(replica);
@@ -159,7 +147,7 @@ pub(crate) fn give_up_view(replica: Replica, frame: &mut [u8]) -> Stepped
 
 // Whether the box coordinates its view in normal mode.
 fn normal_coordinator(replica: Replica) -> bool
-    ensures { λ r. ⌜ r ≡ (not (replica .«view_change») && Events.leads (lawOf (replica .settings)) (groupOf (replica .settings)) (replica .settings .own) (replica .view)) ⌝ }
+    ensures { λ r. ⌜ r ≡ (not (replica .«view_change») && leading replica (replica .view)) ⌝ }
 {
     if replica.view_change {
         return false;

@@ -7,8 +7,9 @@ use script::opening::Opening;
 
 // `r` and the number of a refusal, alone.
 fn print_refusal(number: u8) {
-    let text = script::printing::put_refusal(script::text::empty(), number);
-    script::run::print(script::text::put_byte(text, 10));
+    let mut text = [0u8; 256];
+    let n = script::printing::refusal_line(&mut text, number);
+    script::run::print(&text, n);
 }
 
 // Whether the first line is of the form; `bad` or the refusal of its sizes is printed where it is not.

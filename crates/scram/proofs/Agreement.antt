@@ -10,7 +10,8 @@ use lib.ListN.{length, getD}
 use lib.Dec.{T, eqb, eqb→eq}
 use Rattle.scram.specs.Replica.{Law, Group, Message, Command, Outcome}
 use Rattle.scram.specs.Events.{tick, giveUp, arrive}
-use Rattle.scram.specs.Demand3.{Result, System, Event, Tick, Arrival, GiveUp, Entry, Issued, Situation, issuing, ticksOn, In, delivered, called, step, steps, after, HandedFor, controller, Decided, Demand3}
+use Rattle.scram.specs.Demand3.{Result, System, Event, Tick, Arrival, GiveUp, Entry, Issued, Situation, issuing, ticksOn}
+use Rattle.scram.specs.Demand3.{In, delivered, called, step, steps, after, HandedFor, controller, Decided, Demand3}
 use Rattle.scram.specs.Shown.{isRefused, Still, Sent, Commanded, Does, Shown}
 use Rattle.scram.proofs.Tests.{pick-ok, eqb-no}
 use Rattle.scram.proofs.Rows.{Begins, begins-length}
@@ -355,7 +356,8 @@ module _ {State Readings : Type 0} (system : System State Readings) (Kept : ℕ 
           → (l : List Readings) × Begins l rows × (length l ≡ d .period) × (1 ≤ d .period) × (d .state ≡ run law l)
           → Decided system law (length rows) (rowAt (law .none) rows) x
       decided x d e c (l, s, a, b, r) =
-          let z : controller system law (rowAt (law .none) rows) (d .period) ≡ run law l = rw (← a) (controller-run (rowAt (law .none) rows) l (λ k _ q. row-begins (law .none) s k q)) in
+          let z : controller system law (rowAt (law .none) rows) (d .period) ≡ run law l =
+          rw (← a) (controller-run (rowAt (law .none) rows) l (λ k _ q. row-begins (law .none) s k q)) in
           let u = r ∙ sym z in record {
             period = d .period;
             from1 = b;

@@ -1,3 +1,4 @@
+-- The agreement theorem, and the laws that it stands on.
 pub mod Tests
 pub mod Boxes
 pub mod Rows

@@ -76,7 +76,8 @@ module _ {State Readings : Type 0} (law : Law State Readings) (group : Group) (f
           serves = serves;
         }
           where
-            serves : (c' : Command State) → (c' ≡ c) ⊎ In c' cs → (l' : List Readings) × Begins l' (t .rows) × (length l' ≡ c' .period) × (1 ≤ c' .period) × (c' .state ≡ run law l')
+            serves : (c' : Command State) → (c' ≡ c) ⊎ In c' cs
+                → (l' : List Readings) × Begins l' (t .rows) × (length l' ≡ c' .period) × (1 ≤ c' .period) × (c' .state ≡ run law l')
             serves c' (inl q) = rw q (l, s, sized l v p .0, sized l v p .1, e)
             serves c' (inr q) = t .serves c' q
 

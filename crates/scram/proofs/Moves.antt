@@ -16,7 +16,8 @@ use Rattle.scram.proofs.Tests.{pick-ok, and-left, and-right, or-cases, 
 use Rattle.scram.proofs.Boxes.{heard-before, only-heard}
 use Rattle.scram.proofs.Rows.{Begins, all, then, begins-same, le-or-lt, lt-or-eq, AtMost, at-most-refl, at-most-trans, at-most-up}
 use Rattle.scram.proofs.Facts.{Facts, RowsTo, Based, Opened, Chosen, Consistent}
-use Rattle.scram.proofs.Growth.{or-map, withProposed, withAccepted, withEstimated, grown-refl, grown-trans, grown-proposed, grown-accepted, grown-estimated, consistent-proposed, consistent-accepted, consistent-estimated}
+use Rattle.scram.proofs.Growth.{or-map, withProposed, withAccepted, withEstimated}
+use Rattle.scram.proofs.Growth.{grown-refl, grown-trans, grown-proposed, grown-accepted, grown-estimated, consistent-proposed, consistent-accepted, consistent-estimated}
 use Rattle.scram.proofs.Ties.{run, Made, made-run, Ties, Leads, Hears, Tied, SentTells, IssuedTells, Keeps, keeps-quiet}
 
 -- ---- which of two estimates is the better

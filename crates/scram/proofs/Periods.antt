@@ -56,7 +56,9 @@ module _ {State Readings : Type 0} (law : Law State Readings) where
     receive-counted Ack s m =
         pick-ok (Counted (s .period) (s .period)) _ _ _ (λ _. record { period = refl; command = (refl, refl) }) (λ _. record { period = refl; command = tt })
     receive-counted Decide s m = record { period = refl; command = (refl, refl) }
-    receive-counted Estimate s m = pick-ok (Counted (s .period) (s .period)) _ _ _ (λ _. estimate-counted (s .period) (entered i s (m .view)) (estimateOf m)) (λ _. estimate-counted (s .period) s (estimateOf m))
+    receive-counted Estimate s m =
+        pick-ok (Counted (s .period) (s .period)) _ _ _ (λ _. estimate-counted (s .period) (entered i s (m .view)) (estimateOf m))
+        (λ _. estimate-counted (s .period) s (estimateOf m))
 
     pub arrive-counted : (s : Replica State Readings) (m : Message State Readings) → Counted (s .period) (s .period) (arrive law group i s m)
     unfolding arrive

@@ -9,7 +9,8 @@ use native.Mathlib.Omega.{arith}
 use lib.Dec.{T, eqb, ltb, eqb→eq, eqb-refl, ltb→lt, nltb→le}
 use Rattle.scram.specs.Quorum.{among}
 use Rattle.scram.specs.Replica.{Law, Group, Replica, Kind, Propose, Ack, Decide, Estimate, Message, Outcome}
-use Rattle.scram.specs.Events.{badSender, badPlace, badBase, idle, stale, unwanted, lastPeriod, lastView, refusing, ignoring, doing, estimateOf, entered, ticked, leads, ignores, raise, afterTick, tick, giveUp, hearEstimate, receive, arrive}
+use Rattle.scram.specs.Events.{badSender, badPlace, badBase, idle, stale, unwanted, lastPeriod, lastView}
+use Rattle.scram.specs.Events.{refusing, ignoring, doing, estimateOf, entered, ticked, leads, ignores, raise, afterTick, tick, giveUp, hearEstimate, receive, arrive}
 use Rattle.scram.specs.Shown.{isRefused}
 use Rattle.scram.proofs.Tests.{pick-ok, nor-left, nor-right, nand-right, not-not, is-true, is-false, eqb-no}
 use Rattle.scram.proofs.Rows.{Begins, then, le-or-lt}

@@ -10,15 +10,15 @@ use lib.ListN.{length, getD}
 use borrow.Author.Tests.{eqb-true, eqb-false, ltb-true}
 use Rattle.frame.specs.Marks.{allBelow}
 use Rattle.frame.proofs.Booleans.{both, never, all-at}
-use Rattle.script.specs.declared.numbers.Number.{Number}
-use Rattle.script.specs.declared.numbers.Number.the-variants.{Whole, Malformed}
-use Rattle.script.specs.declared.events.Event.the-variants.{Bad}
-use Rattle.script.specs.Numbers.{numberOf, counted, isWhole}
-use Rattle.script.specs.Fields.{oneMore, spaces, oneLess, behindSpaces, upToSpace, field}
-use Rattle.script.specs.Events.{letterOf, boxOf, isReading, allReadings, tickLine, giveUpLine, deliverLine, calledFor, eventOf}
+use Rattle.line.specs.declared.numbers.Number.{Number}
+use Rattle.line.specs.declared.numbers.Number.the-variants.{Whole, Malformed}
+use Rattle.line.specs.declared.events.Event.the-variants.{Bad}
+use Rattle.line.specs.Numbers.{numberOf, counted, isWhole}
+use Rattle.line.specs.Fields.{oneMore, spaces, oneLess, behindSpaces, upToSpace, field}
+use Rattle.line.specs.Events.{letterOf, boxOf, isReading, allReadings, tickLine, giveUpLine, deliverLine, calledFor, eventOf}
 use Rattle.script.specs.Opening.{sizeIn, sizesIn, isRig, begun, allNumbers, numbered}
-use Rattle.script.proofs.FieldLaws.{behind-found}
-use Rattle.script.proofs.LineLaws.{signed-length}
+use Rattle.line.proofs.FieldLaws.{behind-found}
+use Rattle.script.proofs.TextLengths.{signed-length}
 use Rattle.script.proofs.RoundTrip.{printed-reads}
 
 -- ---- the fields of a line, one byte after the other

@@ -1,7 +1,7 @@
 -- Laws of the first line of `rig`: small products, and sizes in range. Assumes nothing.
 use mathlib.Core.Path.{_≡_, refl, sym}
 use mathlib.Core.Bool.{Bool, true, false, cond, not, _||_}
-use Prim.Native.Nat.{ℕ, _*_, _-_, _≤_}
+use Prim.Native.Nat.{ℕ, _*_, _≤_}
 use native.Mathlib.Omega.{arith}
 use native.Mathlib.Nat.{mul-le-mul}
 use lib.Dec.{eqb, leb, ltb}
@@ -12,7 +12,7 @@ use mir.Syntax.{w32}
 use mir.Val.{SFits, toZ, ofZ}
 use mir.ValLaws.{toZ-ofZ}
 use Rattle.frame.proofs.Booleans.{both, never}
-use Rattle.script.specs.declared.numbers.Number.the-variants.{Whole}
+use Rattle.line.specs.declared.numbers.Number.the-variants.{Whole}
 use Rattle.script.specs.declared.opening.Sizes.{Sizes}
 use Rattle.script.specs.Opening.{sizeIn, fromOne, sizesRefusal}
 use Rattle.script.proofs.TextLaws.{below}

@@ -1,12 +1,12 @@
 -- Laws of a line played: what a step gave decides what the line leaves. Assumes nothing.
-use mathlib.Core.Path.{_≡_, refl, sym, ap, ap₂, _∙_, subst}
+use mathlib.Core.Path.{_≡_, refl, ap, ap₂, _∙_}
 use mathlib.Core.Bool.{true, false, _&&_}
-use mathlib.Core.List.{List, [], _∷_}
-use Prim.Native.Nat.{ℕ, zero, suc, _≤_, _<_}
+use mathlib.Core.List.{List}
+use Prim.Native.Nat.{ℕ, _≤_}
 use native.Mathlib.Omega.{arith}
 use lib.Dec.{leb, ltb}
 use lib.IntN.{ℤ}
-use lib.ListN.{length, getD, set, take, replicate}
+use lib.ListN.{length, set, take, replicate}
 use borrow.Author.Tests.{leb-true, ltb-true}
 use Rattle.readings.specs.declared.Readings.{Readings}
 use Rattle.scram.specs.Replica.{Outcome}
@@ -17,14 +17,13 @@ use Rattle.replica.specs.declared.Replica.{Replica}
 use Rattle.replica.specs.declared.Stepped.{Stepped}
 use Rattle.replica.specs.Frames.{sentBytes}
 use Rattle.replica.specs.Calls.{Gives}
-use Rattle.script.specs.declared.events.Event.{Event}
-use Rattle.script.specs.declared.events.Event.the-variants.{Tick, GiveUp, Deliver, Bad}
-use Rattle.script.specs.declared.text.Text.{Text}
-use Rattle.script.specs.declared.play.Played.{Played}
+use Rattle.line.specs.declared.events.Event.{Event}
+use Rattle.line.specs.declared.events.Event.the-variants.{Tick, GiveUp, Deliver, Bad}
+use Rattle.script.specs.declared.play.Turn.{Turn}
 use Rattle.script.specs.Text.{shown}
-use Rattle.script.specs.Frames.{wasSent, keptFrame}
+use Rattle.line.specs.Frames.{wasSent, keptFrame}
 use Rattle.script.specs.Printing.{badLine, stepLine}
-use Rattle.script.specs.Play.{boxIn, lineIn, playable, roomy, steppedOf, eventOutcome, Plays, boxAt, afterEvent, Leaves}
+use Rattle.script.specs.Play.{boxIn, lineIn, playable, roomy, steppedOf, eventOutcome, afterStep, afterEvent, Leaves}
 use Rattle.script.proofs.PlaceLaws.{over-length, over-first}
 
 -- ---- the event at its box
@@ -42,17 +41,17 @@ module _ {s : Settings} {o : Outcome (List ℤ) Readings} {r : Stepped} {frame f
   first-bytes : take (r .frame) frame′ ≡ sentBytes s (o .sent)
   first-bytes = ap₂ (λ (n : ℕ) (l : List ℕ). take n l) (g .frame-length) (g .frame-bytes) ∙ over-first (sentBytes s (o .sent)) frame
 
-pub plays : {s : Settings} {o : Outcome (List ℤ) Readings} {r : Stepped} {frame frame′ command′ : List ℕ}
-    (at number : ℕ) (table table′ lengths : List ℕ) (text : Text)
+pub leaves-step : {s : Settings} {o : Outcome (List ℤ) Readings} {r : Stepped} {frame frame′ command′ : List ℕ}
+    (at number : ℕ) (table table′ lengths text′ : List ℕ) (printed : ℕ)
     → Gives s o r frame frame′ (replicate 24 0) command′
     → table′ ≡ keptFrame table number (take (r .frame) frame′)
-    → shown text ≡ stepLine number at r command′
-    → Plays s o at number table lengths (record { replica = r .replica; text = text }) table′ (set lengths number (r .frame))
-plays {s} {o} at number table table′ lengths text g kept printed = record {
+    → shown text′ printed ≡ stepLine number at r command′
+    → Leaves (afterStep at number table lengths s o) (record { replica = r .replica; printed = printed }) table′ (set lengths number (r .frame)) text′
+leaves-step {s} {o} at number table table′ lengths text′ n g kept line = record {
   replica = g .replica;
-  printed = printed ∙ ap₂ (stepLine number at) (given g) (g .command-bytes);
-  kept = kept ∙ ap (keptFrame table number) (first-bytes g);
-  size = ap (set lengths number) (g .frame-length);
+  printed = line ∙ ap₂ (stepLine number at) (given g) (g .command-bytes);
+  table = kept ∙ ap (keptFrame table number) (first-bytes g);
+  lengths = ap (set lengths number) (g .frame-length);
 }
 
 -- ---- room
@@ -90,34 +89,15 @@ earlier Bad number lengths e h = never e
 
 -- ---- the line
 
-module _ (replicas : List Replica) (event : Event) (y : Readings) (number : ℕ) (table lengths : List ℕ) where
-  pub leaves-bad : (text : Text) → (roomy event number (length table) (length lengths) && playable event number lengths) ≡ false
-      → shown text ≡ badLine number
-      → Leaves (afterEvent replicas event y number table lengths) (record { replicas = replicas; text = text }) table lengths
+module _ (r : Replica) (event : Event) (y : Readings) (number : ℕ) (table lengths text′ : List ℕ) (turn : Turn) where
+  pub leaves-bad : (roomy event number (length table) (length lengths) && playable event number lengths) ≡ false
+      → (turn .replica ≡ r) × (shown text′ (turn .printed) ≡ badLine number)
+      → Leaves (afterEvent r event y number table lengths) turn table lengths text′
   unfolding afterEvent pick
-  leaves-bad text e p = rw e (record { replicas = refl; printed = p; table = refl; lengths = refl })
+  leaves-bad e p = rw e (record { replica = p .0; printed = p .1; table = refl; lengths = refl })
 
-  leaves-step : (r : Played) {table′ lengths′ : List ℕ} → (roomy event number (length table) (length lengths) && playable event number lengths) ≡ true
-      → Plays (boxAt replicas (boxIn event) .settings) (eventOutcome (boxAt replicas (boxIn event)) event y table lengths) (boxIn event) number table lengths r table′ lengths′
-      → Leaves (afterEvent replicas event y number table lengths) (record { replicas = set replicas (boxIn event) (r .replica); text = r .text }) table′ lengths′
+  pub leaves-played : {table′ lengths′ : List ℕ} → (roomy event number (length table) (length lengths) && playable event number lengths) ≡ true
+      → Leaves (afterStep (boxIn event) number table lengths (r .settings) (eventOutcome r event y table lengths)) turn table′ lengths′ text′
+      → Leaves (afterEvent r event y number table lengths) turn table′ lengths′ text′
   unfolding afterEvent pick
-  leaves-step r e p = rw e (record { replicas = ap (set replicas (boxIn event)) (p .replica); printed = p .printed; table = p .kept; lengths = p .size })
-
--- a place that is there does not depend on what stands for one that is not
-pub boxAt-there : (replicas : List Replica) (b : ℕ) (other : Replica) → b < length replicas → getD replicas b other ≡ boxAt replicas b
-boxAt-there [] b other h = absurd (omega arith)
-boxAt-there (r ∷ rs) zero other h = refl
-boxAt-there (r ∷ rs) (suc b) other h = boxAt-there rs b other (omega arith)
-
--- a line whose event was played at its box
-pub leaves-played : (replicas : List Replica) {event event′ : Event} {y y′ : Readings} {b : ℕ} {x : Replica} (number : ℕ) (table lengths : List ℕ) (r : Played)
-    {table′ lengths′ : List ℕ} → event ≡ event′ → y ≡ y′ → b ≡ boxIn event → x ≡ boxAt replicas b
-    → roomy event number (length table) (length lengths) ≡ true → playable event number lengths ≡ true
-    → Plays (x .settings) (eventOutcome x event y table lengths) (boxIn event) number table lengths r table′ lengths′
-    → Leaves (afterEvent replicas event′ y′ number table lengths) (record { replicas = set replicas b (r .replica); text = r .text }) table′ lengths′
-leaves-played replicas {event} {event′} {y} {y′} {b} {x} number table lengths r {table′} {lengths′} ee ey eb ex roomed played p =
-    subst (λ (e : Event). Leaves (afterEvent replicas e y′ number table lengths) (record { replicas = set replicas b (r .replica); text = r .text }) table′ lengths′) ee
-    (subst (λ (z : Readings). Leaves (afterEvent replicas event z number table lengths) (record { replicas = set replicas b (r .replica); text = r .text }) table′ lengths′) ey
-    (subst (λ (n : ℕ). Leaves (afterEvent replicas event y number table lengths) (record { replicas = set replicas n (r .replica); text = r .text }) table′ lengths′) (sym eb)
-    (leaves-step replicas event y number table lengths r (rw (roomed, played))
-    (subst (λ (z : Replica). Plays (z .settings) (eventOutcome z event y table lengths) (boxIn event) number table lengths r table′ lengths′) (ex ∙ ap (boxAt replicas) eb) p))))
+  leaves-played e p = rw e p

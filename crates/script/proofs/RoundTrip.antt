@@ -13,12 +13,12 @@ use borrow.Author.Tests.{le-leb, lt-ltb, ltb-true, ltb-false, ne-eqb, eqb-true, 
 use Rattle.frame.proofs.Booleans.{both, never}
 use mir.Syntax.{w32}
 use mir.Val.{SFits}
-use Rattle.script.specs.declared.numbers.Number.the-variants.{Whole, Malformed}
-use Rattle.script.specs.declared.numbers.Magnitude.{Magnitude}
-use Rattle.script.specs.declared.numbers.Magnitude.the-variants.{Digits, Other}
-use Rattle.script.specs.Numbers.{isDigit, goesOn, spelled, wellBegun, magnitude, isMinus, negative, positive, numberOf}
+use Rattle.line.specs.declared.numbers.Number.the-variants.{Whole, Malformed}
+use Rattle.line.specs.declared.numbers.Magnitude.{Magnitude}
+use Rattle.line.specs.declared.numbers.Magnitude.the-variants.{Digits, Other}
+use Rattle.line.specs.Numbers.{isDigit, goesOn, spelled, wellBegun, magnitude, isMinus, negative, positive, numberOf}
 use Rattle.script.specs.Text.{digitsBefore, decimal, signed}
-use Rattle.script.proofs.NumberLaws.{Goes, goes}
+use Rattle.line.proofs.NumberLaws.{Goes, goes}
 use Rattle.script.proofs.TextLaws.{last-digit, more-digits}
 
 -- ---- digits that are printed

@@ -15,7 +15,7 @@ use mir.Syntax.{w32}
 use mir.Val.{SFits, toZ, ofZ}
 use mir.ValLaws.{toZ-pos, toZ-ofZ}
 use Rattle.readings.specs.Places.{entry}
-use Rattle.frame.proofs.TwosComplement.{natural}
+use Rattle.frame.proofs.TwosComplement.{minus-negsuc, natural}
 use Rattle.script.specs.Text.{with, digitsBefore, decimal, signed, behindCommas, listed}
 
 -- more behind more
@@ -112,15 +112,12 @@ pub record Below (z : ℤ) : Type 0 where
   pub fits : SFits w32 (negsuc 0 -ℤ toZ w32 (ofZ w32 z))
   pub size : toZ w32 (ofZ w32 (negsuc 0 -ℤ toZ w32 (ofZ w32 z))) ≡ pos k
 
-unminus : (k : ℕ) → negsuc 0 -ℤ negsuc k ≡ pos k
-unminus k = rw (le-ltb (suc k) 1 (omega arith)) (ap pos (omega arith))
-
 pub below : (z : ℤ) → SFits w32 z → ltZ (toZ w32 (ofZ w32 z)) (pos 0) ≡ true → Below z
 below (pos n) s e = absurd (omega (arith, ltb-true n 0 (rw (toZ-ofZ w32 (pos n) s) at e)))
 below (negsuc k) s e =
     let small : k < 2147483648 = s .sfits in
     let back : toZ w32 (ofZ w32 (negsuc k)) ≡ negsuc k = toZ-ofZ w32 (negsuc k) s in
-    let m : negsuc 0 -ℤ toZ w32 (ofZ w32 (negsuc k)) ≡ pos k = ap (λ (y : ℤ). negsuc 0 -ℤ y) back ∙ unminus k in
+    let m : negsuc 0 -ℤ toZ w32 (ofZ w32 (negsuc k)) ≡ pos k = ap (λ (y : ℤ). negsuc 0 -ℤ y) back ∙ minus-negsuc k in
     record {
       k = k;
       is = refl;

@@ -1,8 +1,5 @@
-pub mod Numbers
-pub mod Fields
-pub mod Events
+-- The definitions, in the order to read: text, printed lines, a line played, and the first line of `rig`.
 pub mod Text
-pub mod Frames
 pub mod Printing
 pub mod Play
 pub mod Opening

@@ -11,15 +11,15 @@ use Rattle.frame.specs.Marks.{allBelow}
 use Rattle.law.specs.declared.Settings as Law
 use Rattle.replica.specs.declared.Settings.{Settings}
 use Rattle.replica.specs.Calls.{blankSettings}
-use Rattle.script.specs.declared.numbers.Number.{Number}
-use Rattle.script.specs.declared.numbers.Number.the-variants.{Whole, Malformed}
+use Rattle.line.specs.declared.numbers.Number.{Number}
+use Rattle.line.specs.declared.numbers.Number.the-variants.{Whole, Malformed}
 use Rattle.script.specs.declared.opening.Sizes.{Sizes}
 use Rattle.script.specs.declared.opening.Starts.{Starts}
 use Rattle.script.specs.declared.opening.Opening.{Opening}
 use Rattle.script.specs.declared.opening.Opening.the-variants.{Bad, Refused, Ready}
 use Rattle.script.specs.declared.opening.Opened.{Opened}
-use Rattle.script.specs.Numbers.{numberOf, valueIn, isWhole}
-use Rattle.script.specs.Fields.{spaces, field}
+use Rattle.line.specs.Numbers.{numberOf, valueIn, isWhole}
+use Rattle.line.specs.Fields.{spaces, field}
 
 -- "N, n, m and p are 0 to 255"; 256 for anything else
 unfoldable pub sizeIn : Number → ℕ

@@ -1,10 +1,10 @@
 -- One line played: what an event does at its box, and what the line leaves behind.
 use Prim.Native.Nat.{ℕ}
 use mathlib.Core.Path.{_≡_}
-use mathlib.Core.Bool.{Bool, true, false, _&&_}
+use mathlib.Core.Bool.{Bool, true, false, cond, _&&_}
 use mathlib.Core.List.{List, [], _∷_}
 use lib.ListN.{length, getD, set, replicate}
-use lib.Dec.{leb}
+use lib.Dec.{leb, ltb}
 use lib.IntN.{ℤ}
 use Rattle.readings.specs.declared.Readings.{Readings}
 use Rattle.scram.specs.Replica.{Outcome}
@@ -15,14 +15,12 @@ use Rattle.replica.specs.declared.Replica.{Replica}
 use Rattle.replica.specs.declared.Stepped.{Stepped}
 use Rattle.replica.specs.Held.{held, replicaOf}
 use Rattle.replica.specs.Frames.{sentBytes, issuedBytes}
-use Rattle.replica.specs.Calls.{tickOutcome, giveUpOutcome, arriveOutcome, made, blankSettings}
-use Rattle.script.specs.declared.events.Event.{Event}
-use Rattle.script.specs.declared.events.Event.the-variants.{Tick, GiveUp, Deliver, Bad}
+use Rattle.replica.specs.Calls.{tickOutcome, giveUpOutcome, arriveOutcome, made}
+use Rattle.line.specs.declared.events.Event.{Event}
+use Rattle.line.specs.declared.events.Event.the-variants.{Tick, GiveUp, Deliver, Bad}
 use Rattle.script.specs.declared.play.Turn.{Turn}
-use Rattle.script.specs.declared.play.Played.{Played}
 use Rattle.script.specs.Text.{shown}
-use Rattle.script.specs.Events.{eventOf, rowOf}
-use Rattle.script.specs.Frames.{wasSent, frameOf, keptFrame}
+use Rattle.line.specs.Frames.{wasSent, frameOf, keptFrame}
 use Rattle.script.specs.Printing.{badLine, stepLine}
 
 -- the box that an event is for, 0 where there is none
@@ -38,6 +36,10 @@ lineIn (Tick at) = 0
 lineIn (GiveUp at) = 0
 lineIn (Deliver at f) = f
 lineIn Bad = 0
+
+-- the place of its replica: box b has place b, and place 0 is no box's
+unfoldable pub placeOf : Event → ℕ
+placeOf event = cond (ltb (boxIn event) 10) (boxIn event) 0
 
 -- "other lines and unsent frames print the line number, a space and `bad`"
 unfoldable pub playable : Event → ℕ → List ℕ → Bool
@@ -66,21 +68,21 @@ steppedOf s o = record {
   command = length (issuedBytes s (o .command));
 }
 
--- what a line leaves: the replicas, what is printed, the table of frames and the list of their lengths
+-- what a line leaves: the replica of its box, what is printed, the table of frames and the list of their lengths
 pub record After : Type 0 where
-  pub replicas : List Replica
+  pub replica : Replica
   pub printed : List ℕ
   pub table : List ℕ
   pub lengths : List ℕ
 
 -- a line that is no line of the format, or delivers a frame that was not sent
-abbrev pub afterBad : List Replica → ℕ → List ℕ → List ℕ → After
-afterBad replicas number table lengths = record { replicas = replicas; printed = badLine number; table = table; lengths = lengths }
+abbrev pub afterBad : Replica → ℕ → List ℕ → List ℕ → After
+afterBad r number table lengths = record { replica = r; printed = badLine number; table = table; lengths = lengths }
 
 -- a line whose event has this outcome at box `at`, with settings s. The command area held zeros before.
-abbrev pub afterStep : List Replica → ℕ → ℕ → List ℕ → List ℕ → Settings → Outcome (List ℤ) Readings → After
-afterStep replicas at number table lengths s o = record {
-  replicas = set replicas at (replicaOf s (o .replica));
+abbrev pub afterStep : ℕ → ℕ → List ℕ → List ℕ → Settings → Outcome (List ℤ) Readings → After
+afterStep at number table lengths s o = record {
+  replica = replicaOf s (o .replica);
   printed = stepLine number at (steppedOf s o) (over (issuedBytes s (o .command)) (replicate 24 0));
   table = keptFrame table number (sentBytes s (o .sent));
   lengths = set lengths number (length (sentBytes s (o .sent)));
@@ -90,33 +92,17 @@ afterStep replicas at number table lengths s o = record {
 unfoldable pub eventOutcome : Replica → Event → Readings → List ℕ → List ℕ → Outcome (List ℤ) Readings
 eventOutcome r event y table lengths = outcomeOf r event y (frameOf table (lineIn event) (getD lengths (lineIn event) 0)) 69 24
 
--- an event played at box `at` leaves what its outcome says
-pub record Plays (s : Settings) (o : Outcome (List ℤ) Readings) (at number : ℕ) (table lengths : List ℕ) (r : Played) (table′ lengths′ : List ℕ) : Type 0 where
-  pub replica : r .replica ≡ replicaOf s (o .replica)
-  pub printed : shown (r .text) ≡ stepLine number at (steppedOf s o) (over (issuedBytes s (o .command)) (replicate 24 0))
-  pub kept : table′ ≡ keptFrame table number (sentBytes s (o .sent))
-  pub size : lengths′ ≡ set lengths number (length (sentBytes s (o .sent)))
-
--- the replica of box b
-abbrev pub boxAt : List Replica → ℕ → Replica
-boxAt replicas b = getD replicas b (made blankSettings)
-
--- what the line of an event leaves
-unfoldable pub afterEvent : List Replica → Event → Readings → ℕ → List ℕ → List ℕ → After
-afterEvent replicas event y number table lengths =
+-- what the line of an event leaves, at the replica of its box
+unfoldable pub afterEvent : Replica → Event → Readings → ℕ → List ℕ → List ℕ → After
+afterEvent r event y number table lengths =
     pick (roomy event number (length table) (length lengths) && playable event number lengths)
-    (afterStep replicas (boxIn event) number table lengths (boxAt replicas (boxIn event) .settings)
-    (eventOutcome (boxAt replicas (boxIn event)) event y table lengths))
-    (afterBad replicas number table lengths)
-
--- what a line leaves, in a group of so many boxes with m readings
-unfoldable pub afterLine : List Replica → ℕ → ℕ → ℕ → List ℕ → List ℕ → List ℕ → After
-afterLine replicas boxes m number line table lengths = afterEvent replicas (eventOf boxes m line) (rowOf m line) number table lengths
+    (afterStep (boxIn event) number table lengths (r .settings) (eventOutcome r event y table lengths))
+    (afterBad r number table lengths)
 
 -- a turn, and the lent areas at its end, are what a line leaves
-pub record Leaves (a : After) (r : Turn) (table′ lengths′ : List ℕ) : Type 0 where
-  pub replicas : r .replicas ≡ a .replicas
-  pub printed : shown (r .text) ≡ a .printed
+pub record Leaves (a : After) (r : Turn) (table′ lengths′ text′ : List ℕ) : Type 0 where
+  pub replica : r .replica ≡ a .replica
+  pub printed : shown text′ (r .printed) ≡ a .printed
   pub table : table′ ≡ a .table
   pub lengths : lengths′ ≡ a .lengths
 

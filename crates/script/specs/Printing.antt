@@ -1,17 +1,20 @@
 -- The lines that are printed, each with its line feed, as bytes: 10 is a line feed, 32 a space, 45 a minus, 98 97 100 `bad`, 111 107 `ok`,
 -- 105 103 110 111 114 101 100 `ignored` and 114 `r`.
-use Prim.Native.Nat.{ℕ, _+_}
+use Prim.Native.Nat.{ℕ}
 use mathlib.Core.Bool.{cond}
 use mathlib.Core.List.{List, [], _∷_, _++_}
 use lib.ListN.{take}
 use lib.Dec.{eqb}
-use lib.IntN.{ℤ}
 use Rattle.scram.specs.declared.Answer.{Answer}
 use Rattle.scram.specs.declared.Answer.the-variants.{Done, Ignored, Refused}
-use Rattle.frame.specs.Bytes.{valueAt}
+use Rattle.frame.specs.Command.{commandValues}
 use Rattle.replica.specs.declared.Replica.{Replica}
 use Rattle.replica.specs.declared.Stepped.{Stepped}
 use Rattle.script.specs.Text.{decimal, listed}
+
+-- "`r` and the number alone": what the rig prints of settings that are refused
+unfoldable pub refusalLine : ℕ → List ℕ
+refusalLine number = (114 ∷ decimal number) ++ (10 ∷ [])
 
 -- "the line number, a space and `bad`"
 unfoldable pub badLine : ℕ → List ℕ
@@ -35,13 +38,9 @@ counterWords r = (32 ∷ decimal (r .period)) ++ ((32 ∷ decimal (r .view)) ++ 
 unfoldable pub stateWord : Replica → List ℕ
 stateWord r = 32 ∷ listed (take (r .settings .law .n) (r .state))
 
--- "line number if a frame was sent", behind a space; "`-` stands where there is number frame"
+-- "line number if a frame was sent", behind a space; "`-` stands where there is no frame"
 unfoldable pub sentWord : ℕ → ℕ → List ℕ
 sentWord number size = 32 ∷ cond (eqb size 0) (45 ∷ []) (decimal number)
-
--- the four values that a command has room for, "p i32 values from 8"
-unfoldable pub commandValues : List ℕ → List ℤ
-commandValues command = valueAt command 2 ∷ valueAt command 3 ∷ valueAt command 4 ∷ valueAt command 5 ∷ []
 
 -- "command", behind a space; "`-` stands where there is no .. command"
 unfoldable pub commandWord : ℕ → ℕ → List ℕ → List ℕ

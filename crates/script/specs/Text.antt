@@ -5,11 +5,10 @@ use mathlib.Core.List.{List, [], _∷_, _++_}
 use lib.ListN.{take}
 use lib.Dec.{ltb}
 use lib.IntN.{ℤ, pos, negsuc}
-use Rattle.script.specs.declared.text.Text.{Text}
 
--- what was put so far
-abbrev pub shown : Text → List ℕ
-shown t = take (t .length) (t .bytes)
+-- what was put so far: the first n bytes of the area
+abbrev pub shown : List ℕ → ℕ → List ℕ
+shown text n = take n text
 
 -- what is put behind it, as far as there is room
 unfoldable pub with : List ℕ → List ℕ → List ℕ

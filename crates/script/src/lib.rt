@@ -1,10 +1,6 @@
-// The lines of the bench: what a line says, what one event does to a box and to the frames sent, and the line that is printed.
-pub mod events;
-pub mod fields;
-pub mod frames;
-pub mod numbers;
+// Scripts played: what one event does to a box and to the frames sent, the line that is printed, and the first line of `rig`.
 pub mod opening;
 pub mod play;
 pub mod printing;
 pub mod run;
-pub mod text;
+mod text;

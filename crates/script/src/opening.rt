@@ -3,15 +3,15 @@ ghost use mathlib.Core.Path.{_≡_};
 ghost use Prim.Native.Nat.{_*_, _<_, _≤_};
 ghost use lib.ListN.{length, replicate};
 ghost use lib.IntN.{pos};
-ghost use Rattle.script.specs.Numbers.{numberOf};
+ghost use Rattle.line.specs.Numbers.{numberOf};
 ghost use Rattle.script.specs.Opening.{sizeIn, sizesIn, isRig, begun, fromOne, sizesRefusal, startsOf, allNumbers, numbered, entryOf, tableOf, lawIn, openedBy};
 ghost use Rattle.script.specs.Opening.{shut as Opening·shut};
-use crate::fields::count_spaces;
-use crate::fields::field;
-use crate::numbers::Number;
-use crate::numbers::is_number;
-use crate::numbers::number_in;
-use crate::numbers::value_in;
+use line::fields::count_spaces;
+use line::fields::field;
+use line::numbers::Number;
+use line::numbers::is_number;
+use line::numbers::number_in;
+use line::numbers::value_in;
 use replica::Settings;
 
 // What the first line is: not of the form, refused by 1 or 2, or settings that making is to look at.

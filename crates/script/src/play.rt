@@ -3,26 +3,27 @@ ghost use mathlib.Core.Path.{_≡_};
 ghost use Prim.Native.Nat.{_≤_};
 ghost use lib.ListN.{length};
 ghost use Rattle.replica.specs.Calls.{Gives};
-ghost use Rattle.script.specs.Play.{boxIn, lineIn, playable, roomy, outcomeOf, eventOutcome, Plays, afterLine, Leaves, freshBox, freshBoxes};
-use crate::events::Event;
-use crate::events::event_in;
-use crate::events::row_in;
-use crate::frames::frame_of;
-use crate::frames::keep;
-use crate::frames::was_sent;
+ghost use Rattle.script.specs.Text.{shown};
+ghost use Rattle.line.specs.Events.{rowOf};
+ghost use Rattle.script.specs.Printing.{badLine};
+ghost use Rattle.script.specs.Play.{boxIn, lineIn, playable, roomy, placeOf, outcomeOf, eventOutcome, afterStep, afterEvent, Leaves, freshBox, freshBoxes};
 use crate::printing::bad_line;
 use crate::printing::step_line;
-use crate::text::Text;
+use line::events::Event;
+use line::events::row_in;
+use line::frames::frame_of;
+use line::frames::keep;
+use line::frames::was_sent;
 use readings::Readings;
 use replica::Replica;
 use replica::Settings;
 use replica::Stepped;
 use scram::Answer;
 
-// What a line leaves: the replicas, box b at place b, and the text that is printed.
+// What a line leaves: the replica of its box, and the length of the text that is printed.
 pub struct Turn {
-    pub replicas: [Replica; 10],
-    pub text: Text,
+    pub replica: Replica,
+    pub printed: usize,
 }
 
 // One event at a replica.
@@ -34,7 +35,8 @@ pub fn step(
     frame: &mut [u8],
     command: &mut [u8],
 ) -> Stepped
-    ensures { λ r. ⌜ Gives (replica .settings) (outcomeOf replica event readings (now (arriving .entry)) (length (now (frame .entry))) (length (now (command .entry)))) r (now (frame .entry)) (now (frame .exit)) (now (command .entry)) (now (command .exit)) ⌝ }
+    ensures { λ r. ⌜ Gives (replica .settings) (outcomeOf replica event readings (now (arriving .entry)) (length (now (frame .entry))) (length (now (command .entry))))
+        r (now (frame .entry)) (now (frame .exit)) (now (command .entry)) (now (command .exit)) ⌝ }
 {
     match event {
         Event::Tick(_) => replica.tick(readings, frame, command),
@@ -101,10 +103,13 @@ fn has_room(event: Event, number: u32, table: usize, lengths: usize) -> bool
     501 <= lengths
 }
 
-// What an event leaves: the replica of its box, and the text that is printed.
-struct Played {
-    replica: Replica,
-    text: Text,
+// A line that is none of the format, or delivers a frame that was not sent.
+fn bad(replica: Replica, number: u32, text: &mut [u8]) -> Turn
+    requires { ⌜ length (now text) ≡ 256 ⌝ }
+    ensures { λ r. ⌜ (r .replica ≡ replica) × (shown (now (text .exit)) (r .printed) ≡ badLine number) ⌝ }
+{
+    let printed = bad_line(text, number);
+    Turn { replica, printed }
 }
 
 // The event of a line that can be played, at the replica of its box.
@@ -115,9 +120,11 @@ fn play_event(
     number: u32,
     table: &mut [u8],
     lengths: &mut [usize],
-) -> Played
-    requires { ⌜ (lineIn event ≤ 500) × (number ≤ 500) × (34569 ≤ length (now table)) × (501 ≤ length (now lengths)) ⌝ }
-    ensures { λ r. ⌜ Plays (replica .settings) (eventOutcome replica event readings (now (table .entry)) (now (lengths .entry))) (boxIn event) number (now (table .entry)) (now (lengths .entry)) r (now (table .exit)) (now (lengths .exit)) ⌝ }
+    text: &mut [u8],
+) -> Turn
+    requires { ⌜ (lineIn event ≤ 500) × (number ≤ 500) × (34569 ≤ length (now table)) × (501 ≤ length (now lengths)) × (length (now text) ≡ 256) ⌝ }
+    ensures { λ r. ⌜ Leaves (afterStep (boxIn event) number (now (table .entry)) (now (lengths .entry)) (replica .settings)
+        (eventOutcome replica event readings (now (table .entry)) (now (lengths .entry)))) r (now (table .exit)) (now (lengths .exit)) (now (text .exit)) ⌝ }
 {
     let f = line_of(event);
     let size = lengths[f as usize];
@@ -135,49 +142,44 @@ fn play_event(
     keep(table, number, &frame, sent);
     lengths[number as usize] = sent;
     let next = s.replica;
-    let text = step_line(number, box_of(event), s, &command);
-    Played {
+    let printed = step_line(text, number, box_of(event), s, &command);
+    Turn {
         replica: next,
-        text,
+        printed,
     }
 }
 
-// A line played, in a group of so many boxes with m readings.
+// The line of an event played, at the replica of its box, with m readings.
 pub fn play(
-    replicas: [Replica; 10],
-    boxes: u8,
+    replica: Replica,
+    event: Event,
     m: u8,
     number: u32,
     line: &[u8],
     table: &mut [u8],
     lengths: &mut [usize],
+    text: &mut [u8; 256],
 ) -> Turn
-    ensures { λ r. ⌜ Leaves (afterLine replicas boxes m number (now (line .entry)) (now (table .entry)) (now (lengths .entry))) r (now (table .exit)) (now (lengths .exit)) ⌝ }
+    ensures { λ r. ⌜ Leaves (afterEvent replica event (rowOf m (now (line .entry))) number (now (table .entry)) (now (lengths .entry)))
+        r (now (table .exit)) (now (lengths .exit)) (now (text .exit)) ⌝ }
 {
-    let event = event_in(boxes, m, line);
     if !has_room(event, number, table.len(), lengths.len()) {
-        return Turn {
-            replicas,
-            text: bad_line(number),
-        };
+        return bad(replica, number, text);
     }
     if !is_playable(event, number, lengths) {
-        return Turn {
-            replicas,
-            text: bad_line(number),
-        };
+        return bad(replica, number, text);
     }
-    let at = box_of(event) as usize;
     let readings = row_in(m, line);
-    let played = play_event(replicas[at], event, readings, number, table, lengths);
-    let mut after = replicas;
-    let next = played.replica;
-    after[at] = next;
-    let text = played.text;
-    Turn {
-        replicas: after,
-        text,
-    }
+    play_event(replica, event, readings, number, table, lengths, text)
+}
+
+// The place of the replica that an event is for: box b has place b, and place 0 is no box's.
+pub(crate) fn place_of(event: Event) -> usize
+    ensures place { λ r. ⌜ r ≡ placeOf event ⌝ }
+    ensures bound { λ r. ⌜ r ≤ 9 ⌝ }
+{
+    let at = box_of(event);
+    if at < 10 { at as usize } else { 0 }
 }
 
 // A fresh replica with this own number.

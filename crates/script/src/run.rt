@@ -3,10 +3,11 @@ ghost use mathlib.Core.Path.{_≡_};
 ghost use mathlib.Core.Bool.{false};
 ghost use Prim.Native.Nat.{_≤_, _<_};
 ghost use lib.ListN.{length, set};
+use crate::play::place_of;
 use crate::play::play;
-use crate::text::Text;
 use libc::STDIN_FILENO;
 use libc::STDOUT_FILENO;
+use line::events::event_in;
 use replica::Replica;
 
 // What was read and not yet looked at: the bytes of a chunk from `at` up to `filled`.
@@ -124,16 +125,24 @@ pub fn read_line(input: Input, chunk: &mut [u8], line: &mut [u8]) -> Line
     }
 }
 
-// Writes a text.
-pub fn print(text: Text) -> bool
-    ensures { λ r. ⌜ (256 < text .length → r ≡ false) ⌝ }
+// Writes the first n bytes, where there are as many.
+fn write_first(bytes: &[u8], n: usize) -> bool
+    ensures { λ r. ⌜ (length (now (bytes .entry)) < n → r ≡ false) ⌝ }
 {
-    let bytes = text.bytes;
-    let n = text.length;
-    if 256 < n {
+    if bytes.len() < n {
         return false;
     }
     io::write_all(STDOUT_FILENO, &bytes[0..n])
+}
+
+// Writes the first n bytes of a text.
+pub fn print(text: &[u8; 256], n: usize) -> bool
+    ensures { λ r. ⌜ (256 < n → r ≡ false) ⌝ }
+{
+    if 256 < n {
+        return false;
+    }
+    write_first(text, n)
 }
 
 // Plays the lines of standard input, at most 500 of them, and tells how many there were.
@@ -151,6 +160,7 @@ pub fn run(
 {
     let mut held = replicas;
     let mut rest = input;
+    let mut text = [0u8; 256];
     let mut number = 0;
     while number < 500 {
         let read = read_line(rest, chunk, line);
@@ -160,9 +170,21 @@ pub fn run(
         rest = read.input;
         number += 1;
         let n = read.size;
-        let turn = play(held, boxes, m, number, &line[0..n], table, lengths);
-        held = turn.replicas;
-        print(turn.text);
+        let event = event_in(boxes, m, &line[0..n]);
+        let place = place_of(event);
+        let turn = play(
+            held[place],
+            event,
+            m,
+            number,
+            &line[0..n],
+            table,
+            lengths,
+            &mut text,
+        );
+        let next = turn.replica;
+        held[place] = next;
+        print(&text, turn.printed);
     }
     number
 }

@@ -1,53 +1,35 @@
-// A line to be printed, put together from its left end. It has room for 256 bytes, more than any line of the bench takes.
+// A line to be printed, put together from its left end in an area of 256 bytes, more than any line of the bench takes. The first `at` bytes are what
+// was put so far, and each call tells how many there are then.
 ghost use mathlib.Core.Path.{_≡_};
 ghost use mathlib.Core.List.{[], _∷_};
 ghost use Prim.Native.Nat.{_+_, _%_, _≤_};
-ghost use lib.ListN.{drop};
+ghost use lib.ListN.{length, drop};
 ghost use Rattle.script.specs.Text.{shown, with as Text·with, decimal as Text·decimal, signed as Text·signed, behindCommas, listed};
 
-// The first `length` bytes are what was put so far.
-pub struct Text {
-    pub bytes: [u8; 256],
-    pub length: usize,
-}
-
-// Nothing yet.
-pub fn empty() -> Text
-    ensures { λ r. ⌜ shown r ≡ [] ⌝ }
-{
-    Text {
-        bytes: [0; 256],
-        length: 0,
-    }
-}
-
 // One byte more, where there is room.
-pub fn put_byte(text: Text, b: u8) -> Text
-    ensures { λ r. ⌜ shown r ≡ Text·with (shown text) (b ∷ []) ⌝ }
+pub(crate) fn put_byte(text: &mut [u8], at: usize, b: u8) -> usize
+    requires { ⌜ length (now text) ≡ 256 ⌝ }
+    ensures { λ r. ⌜ shown (now (text .exit)) r ≡ Text·with (shown (now (text .entry)) at) (b ∷ []) ⌝ }
 {
-    let mut bytes = text.bytes;
-    let at = text.length;
     if at < 256 {
-        bytes[at] = b;
-        return Text {
-            bytes,
-            length: at + 1,
-        };
+        text[at] = b;
+        return at + 1;
     }
-    text
+    at
 }
 
 // A word more.
-pub fn put_word(text: Text, word: &[u8]) -> Text
-    ensures { λ r. ⌜ shown r ≡ Text·with (shown text) (now (word .entry)) ⌝ }
+pub(crate) fn put_word(text: &mut [u8], at: usize, word: &[u8]) -> usize
+    requires { ⌜ length (now text) ≡ 256 ⌝ }
+    ensures { λ r. ⌜ shown (now (text .exit)) r ≡ Text·with (shown (now (text .entry)) at) (now (word .entry)) ⌝ }
 {
-    let mut r = text;
+    let mut end = at;
     let mut i = 0;
     while i < word.len() {
-        r = put_byte(r, word[i]);
+        end = put_byte(text, end, word[i]);
         i += 1;
     }
-    r
+    end
 }
 
 // Digits, right-aligned: those from `from` on are in use.
@@ -81,53 +63,61 @@ fn digits_of(n: u32) -> Digits
 }
 
 // A number that is not negative, in decimal.
-pub fn put_decimal(text: Text, n: u32) -> Text
-    ensures { λ r. ⌜ shown r ≡ Text·with (shown text) (Text·decimal n) ⌝ }
+pub(crate) fn put_decimal(text: &mut [u8], at: usize, n: u32) -> usize
+    requires { ⌜ length (now text) ≡ 256 ⌝ }
+    ensures { λ r. ⌜ shown (now (text .exit)) r ≡ Text·with (shown (now (text .entry)) at) (Text·decimal n) ⌝ }
 {
     let d = digits_of(n);
     let bytes = d.bytes;
     let from = d.from;
-    put_word(text, &bytes[from..])
+    put_word(text, at, &bytes[from..])
 }
 
 // A number in decimal, with a minus where it is negative.
-pub fn put_signed(text: Text, z: i32) -> Text
-    ensures { λ r. ⌜ shown r ≡ Text·with (shown text) (Text·signed z) ⌝ }
+fn put_signed(text: &mut [u8], at: usize, z: i32) -> usize
+    requires { ⌜ length (now text) ≡ 256 ⌝ }
+    ensures { λ r. ⌜ shown (now (text .exit)) r ≡ Text·with (shown (now (text .entry)) at) (Text·signed z) ⌝ }
 {
     if z < 0 {
         let n = ((-1 - z) as u32) + 1;
-        return put_decimal(put_byte(text, 45), n);
+        let at = put_byte(text, at, 45);
+        return put_decimal(text, at, n);
     }
-    put_decimal(text, z as u32)
+    put_decimal(text, at, z as u32)
 }
 
 // A comma and a number.
-fn put_next(text: Text, z: i32) -> Text
-    ensures { λ r. ⌜ shown r ≡ Text·with (shown text) (44 ∷ Text·signed z) ⌝ }
+fn put_next(text: &mut [u8], at: usize, z: i32) -> usize
+    requires { ⌜ length (now text) ≡ 256 ⌝ }
+    ensures { λ r. ⌜ shown (now (text .exit)) r ≡ Text·with (shown (now (text .entry)) at) (44 ∷ Text·signed z) ⌝ }
 {
-    put_signed(put_byte(text, 44), z)
+    let at = put_byte(text, at, 44);
+    put_signed(text, at, z)
 }
 
 // Numbers, each behind a comma.
-fn put_behind_commas(text: Text, values: &[i32]) -> Text
-    ensures { λ r. ⌜ shown r ≡ Text·with (shown text) (behindCommas (now (values .entry))) ⌝ }
+fn put_behind_commas(text: &mut [u8], at: usize, values: &[i32]) -> usize
+    requires { ⌜ length (now text) ≡ 256 ⌝ }
+    ensures { λ r. ⌜ shown (now (text .exit)) r ≡ Text·with (shown (now (text .entry)) at) (behindCommas (now (values .entry))) ⌝ }
 {
-    let mut r = text;
+    let mut end = at;
     let mut i = 0;
     while i < values.len() {
         let z = values[i];
-        r = put_next(r, z);
+        end = put_next(text, end, z);
         i += 1;
     }
-    r
+    end
 }
 
 // Numbers with commas between them.
-pub fn put_list(text: Text, values: &[i32]) -> Text
-    ensures { λ r. ⌜ shown r ≡ Text·with (shown text) (listed (now (values .entry))) ⌝ }
+pub(crate) fn put_list(text: &mut [u8], at: usize, values: &[i32]) -> usize
+    requires { ⌜ length (now text) ≡ 256 ⌝ }
+    ensures { λ r. ⌜ shown (now (text .exit)) r ≡ Text·with (shown (now (text .entry)) at) (listed (now (values .entry))) ⌝ }
 {
     if values.len() == 0 {
-        return text;
+        return at;
     }
-    put_behind_commas(put_signed(text, values[0]), &values[1..])
+    let at = put_signed(text, at, values[0]);
+    put_behind_commas(text, at, &values[1..])
 }

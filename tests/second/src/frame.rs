@@ -4,6 +4,7 @@
 //! refuses by 2 for those, writing by 5 for its area, and both by 8, in that
 //! order; 9 to 11 belong to a replica."
 
+use crate::fault::{planted, Fault};
 use crate::law::{self, Command, Readings, State};
 use crate::refusal::Refusal;
 
@@ -78,6 +79,7 @@ fn part_count(kind: u8) -> Option<u8> {
     match kind {
         ACK => Some(0),
         PROPOSE | DECIDE | ESTIMATE => Some(2),
+        5 if planted(Fault::FifthKind) => Some(2),
         _ => None,
     }
 }
@@ -100,8 +102,16 @@ fn read_form(n: u8, m: u8, bytes: &[u8]) -> Option<Frame> {
     if frame.kind == ACK {
         return (bytes.len() == HEADER).then_some(frame);
     }
-    let parts = Parts::of(n.into(), m.into());
-    if bytes.len() != parts.frame_length() || bytes[HEADER..parts.state.0] != parts.pairs() {
+    let mut parts = Parts::of(n.into(), m.into());
+    if planted(Fault::Gap) && bytes.len() > parts.frame_length() {
+        parts.readings.0 = bytes.len() - parts.readings.1;
+    }
+    if planted(Fault::LongerFrame) && bytes.len() > parts.frame_length() {
+        return read_form(n, m, &bytes[..parts.frame_length()]);
+    }
+    if bytes.len() != parts.frame_length()
+        || bytes[HEADER..parts.state.0] != parts.pairs() && !planted(Fault::Pairs)
+    {
         return None;
     }
     // "State and readings are each read from their own part of the frame"
@@ -112,7 +122,11 @@ fn read_form(n: u8, m: u8, bytes: &[u8]) -> Option<Frame> {
 
 /// The header's fields, if its length, kind, part count and byte 3 are right.
 fn read_header(bytes: &[u8]) -> Option<Frame> {
-    if bytes.len() < HEADER || bytes[2] != part_count(bytes[0])? || bytes[3] != 0 {
+    if bytes.len() < HEADER {
+        return None;
+    }
+    let wrong_count = bytes[2] != part_count(bytes[0])? && !planted(Fault::PartCount);
+    if wrong_count || bytes[3] != 0 && !planted(Fault::ByteThree) {
         return None;
     }
     let field = |at: usize| u32::from_le_bytes(four(&bytes[at..]));
@@ -131,6 +145,9 @@ fn read_header(bytes: &[u8]) -> Option<Frame> {
 fn read_state(part: &[u8]) -> State {
     let mut state = State::default();
     read_values(part, &mut state);
+    if planted(Fault::ByteOrder) {
+        state = state.map(i32::swap_bytes);
+    }
     state
 }
 
@@ -142,7 +159,10 @@ fn read_readings(m: u8, part: &[u8]) -> Option<Readings> {
         ..Readings::default()
     };
     read_values(&part[1..], &mut readings.values);
-    (readings == readings.as_read(m)).then_some(readings)
+    let read = readings.as_read(m);
+    let marks_ok = readings.marks == read.marks || planted(Fault::StrayMarkRead);
+    let values_ok = readings.values == read.values || planted(Fault::AbsentValueRead);
+    (marks_ok && values_ok).then_some(readings)
 }
 
 fn read_values(bytes: &[u8], values: &mut [i32]) {
@@ -160,9 +180,15 @@ fn four(bytes: &[u8]) -> [u8; 4] {
 /// bytes, whatever the length of this frame), then 8. "Bytes behind anything
 /// written keep what they held."
 pub fn write(n: u8, m: u8, frame: &Frame, area: &mut [u8]) -> Result<usize, Refusal> {
-    check_sizes(n, m)?;
-    if area.len() < FRAME_AREA {
+    if planted(Fault::AreaFirst) && area.len() < FRAME_AREA {
         return Err(Refusal::Areas);
+    }
+    check_sizes(n, m)?;
+    if area.len() < FRAME_AREA - usize::from(planted(Fault::ShortArea)) {
+        return Err(Refusal::Areas);
+    }
+    if planted(Fault::RefusedHeader) {
+        write_header(frame, 0, area);
     }
     let part_count = part_count(frame.kind).ok_or(Refusal::Form)?;
     if part_count != 0 && !can_be_written(m, &frame.readings) {
@@ -178,14 +204,18 @@ pub fn write(n: u8, m: u8, frame: &Frame, area: &mut [u8]) -> Result<usize, Refu
     area[parts.readings.0] = frame.readings.marks;
     let values = &frame.readings.values[..m.into()];
     write_values(values, &mut area[parts.readings.0 + 1..]);
+    if planted(Fault::BytesBehind) {
+        area[parts.frame_length()..].fill(0);
+    }
     Ok(parts.frame_length())
 }
 
 /// Readings: "what no frame can hold is refused, never silently dropped": no
 /// mark at or above m and, below m, no value but 0 under an absent mark.
 fn can_be_written(m: u8, readings: &Readings) -> bool {
-    let absent_are_zero = (0..m.into()).all(|j| readings.is_present(j) || readings.values[j] == 0);
-    absent_are_zero && !readings.has_marks_beyond(m)
+    let absent_are_zero = (0..m.into()).all(|j| readings.is_present(j) || readings.values[j] == 0)
+        || planted(Fault::AbsentValueWritten);
+    absent_are_zero && (!readings.has_marks_beyond(m) || planted(Fault::StrayMarkWritten))
 }
 
 fn write_header(frame: &Frame, part_count: u8, area: &mut [u8]) {

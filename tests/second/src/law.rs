@@ -87,6 +87,9 @@ fn marks_below(m: u8) -> u8 {
 /// Refusals 2 to 4, in this order.
 pub fn check(settings: &Settings) -> Result<(), Refusal> {
     check_sizes(settings.n, settings.m, settings.p)?;
+    if planted(Fault::LimitsFirst) {
+        check_limits(settings)?;
+    }
     check_coefficients(settings)?;
     check_limits(settings)
 }
@@ -103,7 +106,10 @@ pub fn check_sizes(n: u8, m: u8, p: u8) -> Result<(), Refusal> {
 
 /// Refusal 3: "a coefficient outside its range".
 fn check_coefficients(settings: &Settings) -> Result<(), Refusal> {
-    let (n, m, p) = sizes(settings);
+    let (n, mut m, p) = sizes(settings);
+    if planted(Fault::PlacesBeyond) {
+        m = MAX_READINGS;
+    }
     let in_range = table_in_range(&settings.a, n, n)
         && table_in_range(&settings.l, n, m)
         && table_in_range(&settings.c, m, n)
@@ -116,7 +122,8 @@ fn check_coefficients(settings: &Settings) -> Result<(), Refusal> {
 }
 
 fn table_in_range<const WIDTH: usize>(table: &[[i32; WIDTH]], rows: usize, columns: usize) -> bool {
-    let range = -LARGEST_COEFFICIENT..=LARGEST_COEFFICIENT;
+    let largest = LARGEST_COEFFICIENT + i32::from(planted(Fault::CoefficientBeyond));
+    let range = -LARGEST_COEFFICIENT..=largest;
     table[..rows]
         .iter()
         .all(|row| row[..columns].iter().all(|place| range.contains(place)))
@@ -127,7 +134,7 @@ fn check_limits(settings: &Settings) -> Result<(), Refusal> {
     let limits = settings.lower.iter().zip(&settings.upper);
     if limits
         .take(settings.p.into())
-        .all(|(lower, upper)| lower <= upper)
+        .all(|(lower, upper)| lower < upper || lower == upper && !planted(Fault::EqualLimits))
     {
         Ok(())
     } else {
@@ -143,8 +150,11 @@ pub fn update(settings: &Settings, x: &State, readings: &Readings) -> Result<Sta
     let e = errors(settings, x, readings);
     let mut next = State::default();
     for (i, value) in next[..n].iter_mut().enumerate() {
-        let sum = dot(&settings.a[i][..n], x) + dot(&settings.l[i][..m], &e);
-        *value = clamp(divide(sum));
+        let (of_x, of_e) = (dot(&settings.a[i][..n], x), dot(&settings.l[i][..m], &e));
+        *value = clamp(divide(of_x + of_e));
+        if planted(Fault::TwoDivisions) {
+            *value = clamp(divide(of_x) + divide(of_e));
+        }
     }
     Ok(next)
 }
@@ -155,7 +165,7 @@ fn errors(settings: &Settings, x: &State, readings: &Readings) -> [i32; MAX_READ
     let (n, m, _) = sizes(settings);
     let mut e = [0; MAX_READINGS];
     for (j, error) in e[..m].iter_mut().enumerate() {
-        if readings.is_present(j) {
+        if readings.is_present(j) || planted(Fault::AbsentReading) {
             let expected = divide(dot(&settings.c[j][..n], x));
             *error = clamp(i64::from(readings.values[j]) - expected);
         }
@@ -171,7 +181,8 @@ pub fn command(settings: &Settings, x: &State) -> Result<Command, Refusal> {
     let mut command = Command::default();
     for (j, value) in command[..p].iter_mut().enumerate() {
         let wanted = divide(dot(&settings.k[j][..n], x));
-        *value = limit(wanted, settings.lower[j], settings.upper[j]);
+        let own = if planted(Fault::FirstLimits) { 0 } else { j };
+        *value = limit(wanted, settings.lower[own], settings.upper[own]);
     }
     Ok(command)
 }
@@ -201,6 +212,9 @@ fn divide(sum: i64) -> i64 {
 
 /// "Clamp means: into the i32 range."
 fn clamp(value: i64) -> i32 {
+    if planted(Fault::NotClamped) {
+        return value as i32;
+    }
     limit(value, i32::MIN, i32::MAX)
 }
 

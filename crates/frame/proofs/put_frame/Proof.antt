@@ -63,7 +63,10 @@ returns-2 c =
     let hn : n ≤ length (f .state) = omega (arith, six s, s .pre .0) in
     let hm : m ≤ length (f .readings .values) = omega (arith, four s, s .pre .1) in
     let parts = length-parts n m (f .state) (f .readings) hn hm in
-    let front = then-put l _ _ 0 20 (header f) (pairs n m) (c .before .before .before .before .before .before .before .before .before .before .before .before .before .put-header .ensures) (c .before .before .before .before .before .before .before .before .put-pairs .ensures) (omega (arith, length-header f)) (omega (arith, length-pairs n m, s .pre .2)) in (
+    let front = then-put l _ _ 0 20 (header f) (pairs n m)
+    (c .before .before .before .before .before .before .before .before .before .before .before .before .before .put-header .ensures)
+    (c .before .before .before .before .before .before .before .before .put-pairs .ensures) (omega (arith, length-header f))
+    (omega (arith, length-pairs n m, s .pre .2)) in (
       sym (length-frame n m f hn hm ∙ rw k),
       then-put l _ _ 0 28 (header f ++ pairs n m) (partBytes n m (f .state) (f .readings)) front (c .before .before .put-parts .ensures)
           (simp (length-append, length-header, length-pairs)) (omega (arith, parts, s .pre))

@@ -26,24 +26,43 @@ malformed : (c : tie.Else1) → isFrame (c .before .before .before .args .n) (c 
 malformed c bad = read-malformed _ _ _ (sized-test c) bad
 
 -- the header is as it must be behind the second
-headed-test : (c : tie.Else2) → headerOk (c .before .before .before .before .before .args .n) (c .before .before .before .before .before .args .m) (c .before .before .before .before .before .args .bytes .now) ≡ true
+headed-test : (c : tie.Else2)
+    → headerOk (c .before .before .before .before .before .args .n) (c .before .before .before .before .before .args .m)
+    (c .before .before .before .before .before .args .bytes .now) ≡ true
 headed-test c = sym (c .before .header-ok .ensures) ∙ not-false _ (c .if2 .left)
 
-headed : (c : tie.Else2) → Header (c .before .before .before .before .before .args .n) (c .before .before .before .before .before .args .m) (c .before .before .before .before .before .args .bytes .now)
+headed : (c : tie.Else2)
+    → Header (c .before .before .before .before .before .args .n) (c .before .before .before .before .before .args .m)
+    (c .before .before .before .before .before .args .bytes .now)
 headed c = header-facts _ _ _ (headed-test c)
 
 -- behind the third the frame has parts
-with-parts : (c : tie.Else3) → length (c .before .before .before .before .before .before .before .args .bytes .now) ≡ 29 + 4 * c .before .before .before .before .before .before .before .args .n + 4 * c .before .before .before .before .before .before .before .args .m
+with-parts : (c : tie.Else3)
+    → length (c .before .before .before .before .before .before .before .args .bytes .now)
+    ≡ 29 + 4 * c .before .before .before .before .before .before .before .args .n + 4 * c .before .before .before .before .before .before .before .args .m
 with-parts c = full-len _ _ _ (headed (c .before .before)) (ne-eqb _ _ (c .if3 .left))
 
-in-parts : (c : tie.Else3) → isFrame (c .before .before .before .before .before .before .before .args .n) (c .before .before .before .before .before .before .before .args .m) (c .before .before .before .before .before .before .before .args .bytes .now) ≡ partsOk (c .before .before .before .before .before .before .before .args .n) (c .before .before .before .before .before .before .before .args .m) (c .before .before .before .before .before .before .before .args .bytes .now)
+in-parts : (c : tie.Else3)
+    → isFrame (c .before .before .before .before .before .before .before .args .n)
+    (c .before .before .before .before .before .before .before .args .m)
+    (c .before .before .before .before .before .before .before .args .bytes .now)
+    ≡ partsOk (c .before .before .before .before .before .before .before .args .n)
+    (c .before .before .before .before .before .before .before .args .m)
+    (c .before .before .before .before .before .before .before .args .bytes .now)
 in-parts c = by-parts _ _ _ (headed-test (c .before .before)) (ne-eqb _ _ (c .if3 .left))
 
-paired : (c : tie.Else4) → pairsOk (c .before .before .before .before .before .before .before .before .before .args .n) (c .before .before .before .before .before .before .before .before .before .args .m) (c .before .before .before .before .before .before .before .before .before .args .bytes .now) ≡ true
+paired : (c : tie.Else4)
+    → pairsOk (c .before .before .before .before .before .before .before .before .before .args .n)
+    (c .before .before .before .before .before .before .before .before .before .args .m)
+    (c .before .before .before .before .before .before .before .before .before .args .bytes .now) ≡ true
 paired c = sym (c .before .pairs-ok .ensures) ∙ not-false _ (c .if4 .left)
 
 -- what the last test says of the parts
-judged : (c : tie.After-readings-ok) → c .readings-ok .result ≡ partsOk (c .before .before .before .before .before .before .before .before .before .before .before .before .args .n) (c .before .before .before .before .before .before .before .before .before .before .before .before .args .m) (c .before .before .before .before .before .before .before .before .before .before .before .before .args .bytes .now)
+judged : (c : tie.After-readings-ok)
+    → c .readings-ok .result
+    ≡ partsOk (c .before .before .before .before .before .before .before .before .before .before .before .before .args .n)
+    (c .before .before .before .before .before .before .before .before .before .before .before .before .args .m)
+    (c .before .before .before .before .before .before .before .before .before .before .before .before .args .bytes .now)
 unfolding partsOk
 judged c =
     let p = c .before .before .read-parts .ensures in c .readings-ok .ensures ∙ rw (p .1, p .2, paired (c .before .before .before))
@@ -86,7 +105,8 @@ unfolding fieldsIn
 returns-3 c =
     let a = c .before .before .before .before .before .before .before .before .before .args in
     let k = eq-eqb _ _ (c .before .before .if3 .taken) in
-    let e = read-done (a .n) (a .m) (a .bytes .now) (sized-test (c .before .before .before .before .before .before)) (good-ack (a .n) (a .m) (a .bytes .now) (headed-test (c .before .before .before .before)) k) in
+    let e = read-done (a .n) (a .m) (a .bytes .now) (sized-test (c .before .before .before .before .before .before))
+    (good-ack (a .n) (a .m) (a .bytes .now) (headed-test (c .before .before .before .before)) k) in
     (sym e, c .headed-by .ensures ∙ rw (c .before .no-readings .ensures, frame-read (a .n) (a .m) (a .bytes .now) e, k))
 
 pairs-ok-requires : tie.Need-pairs-ok-requires
@@ -99,7 +119,8 @@ returns-4 : tie.Need-returns-4
 unfolding partsOk
 returns-4 c =
     let a = c .before .before .before .before .before .before .before .before .before .before .args in
-    let e = malformed (c .before .before .before .before .before .before .before) (in-parts (c .before .before .before) ∙ rw (sym (c .before .before .pairs-ok .ensures) ∙ not-true _ (c .before .if4 .taken))) in
+    let e = malformed (c .before .before .before .before .before .before .before)
+    (in-parts (c .before .before .before) ∙ rw (sym (c .before .before .pairs-ok .ensures) ∙ not-true _ (c .before .if4 .taken))) in
     (ap number (c .refused-read3 .ensures .0) ∙ sym e, c .refused-read3 .ensures .1 ∙ sym (no-frame (a .n) (a .m) (a .bytes .now) 7 e))
 
 read-parts-requires : tie.Need-read-parts-requires
@@ -115,7 +136,8 @@ returns-5 : tie.Need-returns-5
 returns-5 c =
     let a = c .before .before .before .before .before .before .before .before .before .before .before .before .before .before .args in
     let bad = sym (judged (c .before .before)) ∙ not-true _ (c .before .if5 .taken) in
-    let e = malformed (c .before .before .before .before .before .before .before .before .before .before .before) (in-parts (c .before .before .before .before .before .before .before) ∙ bad) in
+    let e = malformed (c .before .before .before .before .before .before .before .before .before .before .before)
+    (in-parts (c .before .before .before .before .before .before .before) ∙ bad) in
     (ap number (c .refused-read4 .ensures .0) ∙ sym e, c .refused-read4 .ensures .1 ∙ sym (no-frame (a .n) (a .m) (a .bytes .now) 7 e))
 
 headed-by-requires-2 : tie.Need-headed-by-requires-2
@@ -127,8 +149,18 @@ returns-6 c =
     let a = c .before .before .before .before .before .before .before .before .before .before .before .before .before .before .before .args in
     let p = c .before .before .before .before .before .read-parts .ensures in
     let good = sym (judged (c .before .before .before)) ∙ not-false _ (c .before .before .if5 .left) in
-    let e = read-done (a .n) (a .m) (a .bytes .now) (sized-test (c .before .before .before .before .before .before .before .before .before .before .before .before)) (in-parts (c .before .before .before .before .before .before .before .before) ∙ good) in
-    (sym e, c .headed-by2 .ensures ∙ rw (p .0, p .2, frame-read (a .n) (a .m) (a .bytes .now) e, ne-eqb _ _ (c .before .before .before .before .before .before .before .before .if3 .left)))
+    let e = read-done (a .n) (a .m) (a .bytes .now)
+    (sized-test (c .before .before .before .before .before .before .before .before .before .before .before .before))
+    (in-parts (c .before .before .before .before .before .before .before .before) ∙ good) in (
+      sym e,
+      c .headed-by2 .ensures
+          ∙ rw (
+            p .0,
+            p .2,
+            frame-read (a .n) (a .m) (a .bytes .now) e,
+            ne-eqb _ _ (c .before .before .before .before .before .before .before .before .if3 .left),
+          ),
+    )
 
 pub read-spec : {M : Type 1} → statement M
 read-spec =

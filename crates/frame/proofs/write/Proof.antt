@@ -47,7 +47,8 @@ refused-write-requires-3 c κs = search needs
 returns-3 : tie.Need-returns-3
 returns-3 c =
     let a = c .before .before .before .before .before .before .before .args in
-    let e = write-malformed (a .n) (a .m) (a .frame) (a .area .now) (sized (c .before .before .before .before)) (c .before .before .before .if2 .left) (sym (c .before .before .well-formed .ensures) ∙ not-true _ (c .before .if3 .taken)) in
+    let e = write-malformed (a .n) (a .m) (a .frame) (a .area .now) (sized (c .before .before .before .before))
+    (c .before .before .before .if2 .left) (sym (c .before .before .well-formed .ensures) ∙ not-true _ (c .before .if3 .taken)) in
     let w = nothing-written (a .n) (a .m) (a .frame) (a .area .now) 7 e in
     (ap number (c .refused-write3 .ensures .0) ∙ sym e, (c .refused-write3 .ensures .1 ∙ rw w, rw w))
 
@@ -61,7 +62,9 @@ same-length c = search needs
 returns-4 : tie.Need-returns-4
 returns-4 c =
     let a = c .before .before .before .before .before .before .before .before .before .before .args in
-    let e = write-done (a .n) (a .m) (a .frame) (a .area .now) (sized (c .before .before .before .before .before .before .before)) (c .before .before .before .before .before .before .if2 .left) (sym (c .before .before .before .before .before .well-formed .ensures) ∙ not-false _ (c .before .before .before .before .if3 .left)) in
+    let e = write-done (a .n) (a .m) (a .frame) (a .area .now) (sized (c .before .before .before .before .before .before .before))
+    (c .before .before .before .before .before .before .if2 .left)
+    (sym (c .before .before .before .before .before .well-formed .ensures) ∙ not-false _ (c .before .before .before .before .if3 .left)) in
     let w = frame-written (a .n) (a .m) (a .frame) (a .area .now) e in
     let p = c .before .before .put-frame .ensures in
     (sym e, (p .0 ∙ rw w, p .1 ∙ put-front _ _ ∙ rw w))

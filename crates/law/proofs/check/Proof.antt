@@ -1,78 +1,15 @@
--- `law::check` meets its contract. Assumes nothing.
-use mathlib.Core.Path.{_≡_, sym, _∙_}
-use mathlib.Core.Bool.{true}
-use native.Mathlib.Omega.{arith}
-use lib.ListN.{length}
+-- `law::check` meets its contract: the tables of settings make those settings, but for the starting state, which no call looks at. Assumes nothing.
 use borrow.Author.Needs.{needs}
-use borrow.Author.Tests.{not-true, not-false}
-use Rattle.law.specs.declared.Settings.{Settings}
-use Rattle.law.specs.Settings.{A, L, C, K, sizesInRange, coefficientsInRange, refusal}
-use Rattle.law.proofs.Accepted.{Sizes, sizes}
+use Rattle.law.specs.Settings.{refusal}
 use Rattle.law.proofs.check.Statement.{statement}
 use Rattle.law.proofs.check.Tie as tie
 
--- the settings, behind the first test; and the way back to that test from behind the second
-abbrev settings : tie.Else1 → Settings
-settings c = c .before .before .args .t1
-
-abbrev first : tie.Else2 → tie.Else1
-first c = c .before .before .before .before .before .before .before .before .before .before .before
-
-sizes-passed : (c : tie.Else1) → sizesInRange (settings c .n) (settings c .m) (settings c .p) ≡ true
-sizes-passed c = sym (c .before .sizes-in-range .ensures) ∙ not-false _ (c .if1 .left)
-
-coefficients-passed : (c : tie.Else2) → let s = settings (first c) in coefficientsInRange (A s) (L s) (C s) (K s) (s .n) (s .m) (s .p) ≡ true
-coefficients-passed c = sym (c .before .coefficients-in-range .ensures) ∙ not-false _ (c .if2 .left)
-
-known : (c : tie.Else1) → Sizes (settings c .n) (settings c .m) (settings c .p)
-known c = sizes _ _ _ (sizes-passed c)
-
-sizes-in-range-requires : tie.Need-sizes-in-range-requires
-sizes-in-range-requires c κs = search needs
+check-requires : tie.Need-check-requires
+check-requires c κs = search needs
 
 returns : tie.Need-returns
 unfolding refusal
-returns c = simp (sym (c .before .sizes-in-range .ensures) ∙ not-true _ (c .if1 .taken))
-
-coefficients-in-range-requires : tie.Need-coefficients-in-range-requires
-coefficients-in-range-requires c κs =
-    let k = known (c .before .before .before .before .before .before .before .before .before) in
-    (k .n6, k .m4, k .p4, search needs, search needs, search needs, search needs)
-
-returns-2 : tie.Need-returns-2
-unfolding refusal
-returns-2 c =
-    let b = c .before .before .before .before .before .before .before .before .before .before .before in
-    simp (sizes-passed b, sym (c .before .coefficients-in-range .ensures) ∙ not-true _ (c .if2 .taken))
-
-limits-in-order-requires : tie.Need-limits-in-order-requires
-limits-in-order-requires c κs =
-    let b = first (c .before .before .before .before .before) in
-    let k = known b in
-    let low : length (settings b .low) ≡ 4 = search needs in
-    let high : length (settings b .high) ≡ 4 = search needs in
-    omega (arith, k .p4)
-
-returns-3 : tie.Need-returns-3
-unfolding refusal
-returns-3 c =
-    let b = c .before .before .before .before .before .before .before in
-    simp (sizes-passed (first b), coefficients-passed b, sym (c .before .limits-in-order .ensures) ∙ not-true _ (c .if3 .taken))
-
-returns-4 : tie.Need-returns-4
-unfolding refusal
-returns-4 c =
-    let b = c .before .before .before .before .before .before .before in
-    simp (sizes-passed (first b), coefficients-passed b, sym (c .before .limits-in-order .ensures) ∙ not-false _ (c .if3 .left))
+returns c = c .check .ensures
 
 pub check-spec : {M : Type 1} → statement M
-check-spec =
-    tie.close
-    (tie.spec
-    sizes-in-range-requires
-    returns
-    coefficients-in-range-requires
-    returns-2
-    limits-in-order-requires
-    returns-3
-    returns-4)
+check-spec = tie.close (tie.spec check-requires returns)

@@ -1,65 +1,16 @@
--- `law::command` meets its contract. Assumes nothing.
-use mathlib.Core.Path.{_≡_, _∙_}
-use mathlib.Core.Bool.{true}
-use native.Mathlib.Omega.{arith}
-use lib.ListN.{length}
+-- `law::command` meets its contract: the tables of settings make those settings, but for the starting state, which no call looks at. Assumes nothing.
 use borrow.Author.Needs.{needs}
-use borrow.Author.Tests.{eqb-true, not-true, not-false}
-use Rattle.law.specs.declared.Settings.{Settings}
-use Rattle.law.specs.Settings.{stands}
+use Rattle.law.specs.Settings.{refusal}
 use Rattle.law.specs.Law.{commanded}
-use Rattle.law.proofs.Accepted.{Accepted, accepted, answered}
 use Rattle.law.proofs.command.Statement.{statement}
 use Rattle.law.proofs.command.Tie as tie
 
--- behind the test: the settings stand
-abbrev settings : tie.Else1 → Settings
-settings c = c .before .before .before .args .t1
-
-stand : (c : tie.Else1) → stands (settings c) ≡ true
-stand c = answered (settings c) (c .before .before .check .result) (c .before .is-done .result) (c .before .before .check .ensures) (c .before .is-done .ensures) ∙ not-false _ (c .if1 .left)
-
-known : (c : tie.Else1) → Accepted (settings c)
-known c = accepted (settings c) (eqb-true _ 0 (stand c))
-
-check-requires : tie.Need-check-requires
-check-requires c κs = search needs
-
-is-done-requires : tie.Need-is-done-requires
-is-done-requires c κs = search needs
+command-requires : tie.Need-command-requires
+command-requires c κs = search needs
 
 returns : tie.Need-returns
-unfolding commanded
-returns c =
-    let s = c .before .before .before .args in
-    let refused = answered (s .t1) (c .before .before .check .result) (c .before .is-done .result) (c .before .before .check .ensures) (c .before .is-done .ensures) ∙ not-true _ (c .if1 .taken) in
-    (c .before .before .check .ensures, simp refused)
-
-slice-aggregate-command-values : tie.Need-slice-aggregate-command-values
-slice-aggregate-command-values c = search needs
-
-command-values-requires : tie.Need-command-values-requires
-command-values-requires c κs =
-    let b = c .before .before .before .before .before .before .before .before in
-    let k = known b in
-    let low : length (settings b .low) ≡ 4 = search needs in
-    let high : length (settings b .high) ≡ 4 = search needs in
-    let x : length (b .before .before .before .args .t2) ≡ 6 = search needs in
-    (k .sizes .n6, k .sizes .p4, search needs, omega (arith, low, k .sizes .p4), omega (arith, high, k .sizes .p4), omega (arith, x, k .sizes .n6), k .k)
-
-returns-2 : tie.Need-returns-2
-unfolding commanded
-returns-2 c =
-    let b = c .before .before .before .before .before .before .before .before .before in
-    (b .before .before .check .ensures, c .command-values .ensures ∙ simp (stand b))
+unfolding refusal commanded
+returns c = c .command .ensures
 
 pub command-spec : {M : Type 1} → statement M
-command-spec =
-    tie.close
-    (tie.spec
-    check-requires
-    is-done-requires
-    returns
-    slice-aggregate-command-values
-    command-values-requires
-    returns-2)
+command-spec = tie.close (tie.spec command-requires returns)

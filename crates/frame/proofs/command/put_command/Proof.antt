@@ -1,7 +1,6 @@
 -- `frame::command::put_command` meets its contract: the four bytes, the period and the values are put one behind the other. Assumes nothing.
 use mathlib.Core.Path.{_≡_, refl}
 use mathlib.Core.List.{[], _∷_, _++_}
-use Prim.Native.Nat.{_+_}
 use native.Mathlib.Omega.{arith}
 use native.Mathlib.Nat.{sub-zero}
 use lib.ListN.{length, take, length-append}
@@ -58,7 +57,9 @@ returns c =
     let head = length-littleEndian 4 (s .args .period) in (
       simp (length-append, head, size) (omega arith),
       then-put l _ _ 0 8 ((5 ∷ p ∷ 0 ∷ 0 ∷ []) ++ littleEndian 4 (s .args .period)) (valuesBytes (take p values))
-          (then-put l _ _ 0 4 (5 ∷ p ∷ 0 ∷ 0 ∷ []) (littleEndian 4 (s .args .period)) (c .before .before .before .before .before .before .before .before .before .before .before .before .put-4 .ensures) (c .before .before .before .before .before .before .before .before .put-u32 .ensures) refl (omega (arith, head, s .pre)))
+          (then-put l _ _ 0 4 (5 ∷ p ∷ 0 ∷ 0 ∷ []) (littleEndian 4 (s .args .period))
+          (c .before .before .before .before .before .before .before .before .before .before .before .before .put-4 .ensures)
+          (c .before .before .before .before .before .before .before .before .put-u32 .ensures) refl (omega (arith, head, s .pre)))
           (rw sub-zero at (c .before .before .put-values .ensures))
           (simp head)
           (omega (arith, size, s .pre)),

@@ -42,7 +42,11 @@ returns c =
     then-put l _ _ 0 16 _ _
     (then-put l _ _ 0 12 _ _
     (then-put l _ _ 0 8 _ _
-    (then-put l _ _ 0 4 _ _ (_∙_ {b = put l 0 (f .kind ∷ f .sender ∷ count .result ∷ 0 ∷ [])} (c .before .before .before .before .before .before .before .before .before .before .before .before .before .before .before .before .before .before .put-4 .ensures) four) (c .before .before .before .before .before .before .before .before .before .before .before .before .before .before .put-u32 .ensures) refl (omega arith))
+    (then-put l _ _ 0 4 _ _
+    (_∙_ {b = put l 0 (f .kind ∷ f .sender ∷ count .result ∷ 0 ∷ [])}
+    (c .before .before .before .before .before .before .before .before .before .before .before .before .before .before .before .before .before .before .put-4 .ensures) four)
+    (c .before .before .before .before .before .before .before .before .before .before .before .before .before .before .put-u32 .ensures) refl
+    (omega arith))
     (c .before .before .before .before .before .before .before .before .before .before .put-u322 .ensures) refl (omega arith))
     (c .before .before .before .before .before .before .put-u323 .ensures) refl (omega arith))
     (c .before .before .put-u324 .ensures) refl (omega arith)

@@ -51,7 +51,9 @@ unfolding absentZero
 returns c =
     let a = c .before .before .before .before .before .before .before .args in
     let l = c .before .before .before .before .loop in
-    let fails : (present (a .y) (l .j) || isZero (entry (a .y .values) (l .j))) ≡ false = sym (c .before .present-or-zero .ensures ∙ ap (λ (z : ℤ). present (a .y) (l .j) || isZero z) (back (c .before .before))) ∙ not-true _ (c .if1 .taken) in
+    let fails : (present (a .y) (l .j) || isZero (entry (a .y .values) (l .j))) ≡ false =
+    sym (c .before .present-or-zero .ensures ∙ ap (λ (z : ℤ). present (a .y) (l .j) || isZero z) (back (c .before .before)))
+    ∙ not-true _ (c .if1 .taken) in
     sym (one-fails (λ k. present (a .y) k || isZero (entry (a .y .values) k)) (a .m) (l .j) (omega arith) fails)
 
 add-j : tie.Need-add-j Inv-loop μ-loop
@@ -64,7 +66,9 @@ loop-again : tie.Need-loop-again Inv-loop μ-loop
 loop-again c =
     let a = c .before .before .before .before .before .before .before .args in
     let l = c .before .before .before .before .loop in
-    let holds : (present (a .y) (l .j) || isZero (entry (a .y .values) (l .j))) ≡ true = sym (c .before .present-or-zero .ensures ∙ ap (λ (z : ℤ). present (a .y) (l .j) || isZero z) (back (c .before .before))) ∙ not-false _ (c .if1 .left) in
+    let holds : (present (a .y) (l .j) || isZero (entry (a .y .values) (l .j))) ≡ true =
+    sym (c .before .present-or-zero .ensures ∙ ap (λ (z : ℤ). present (a .y) (l .j) || isZero z) (back (c .before .before)))
+    ∙ not-false _ (c .if1 .left) in
     (omega arith, all-more (λ k. present (a .y) k || isZero (entry (a .y .values) k)) (l .j) (l .inv .1) holds)
 
 returns-2 : tie.Need-returns-2 Inv-loop μ-loop

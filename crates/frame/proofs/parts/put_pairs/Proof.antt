@@ -45,7 +45,9 @@ returns c =
     let a = c .before .before .before .before .before .before .before .before .before .before .before .before .before .before .before .before .before .args in
     then-put (a .area .now) _ _ 20 26 _ _
     (then-put (a .area .now) _ _ 20 24 _ _
-    (then-put (a .area .now) _ _ 20 22 (littleEndian 2 28) (littleEndian 2 (4 * a .n)) (c .before .before .before .before .before .before .before .before .before .before .before .before .before .before .put-u16 .ensures) (c .before .before .before .before .before .before .before .before .before .before .put-u162 .ensures) refl (omega arith))
+    (then-put (a .area .now) _ _ 20 22 (littleEndian 2 28) (littleEndian 2 (4 * a .n))
+    (c .before .before .before .before .before .before .before .before .before .before .before .before .before .before .put-u16 .ensures)
+    (c .before .before .before .before .before .before .before .before .before .before .put-u162 .ensures) refl (omega arith))
     (c .before .before .before .before .before .before .put-u163 .ensures) refl (omega arith))
     (c .before .before .put-u164 .ensures) refl (omega arith)
 

@@ -50,7 +50,9 @@ part-put-values-start-2 : tie.Need-part-put-values-start-2
 part-put-values-start-2 c = search needs
 
 part-put-values-end-2 : tie.Need-part-put-values-end-2
-part-put-values-end-2 c = let s = c .before .before .before .before .before .before .before .before .before .before .before .before .before .before in omega (arith, four s, s .pre .1)
+part-put-values-end-2 c =
+    let s = c .before .before .before .before .before .before .before .before .before .before .before .before .before .before in
+    omega (arith, four s, s .pre .1)
 
 add-put-values : tie.Need-add-put-values
 add-put-values c = search needs
@@ -71,9 +73,13 @@ returns c =
     let l = s .args .area .now in
     let states = length-first n x (omega (arith, six s, s .pre .0)) in
     let values = length-first m (y .values) (omega (arith, four s, s .pre .1)) in
-    let mark = c .before .before .before .before .before .before .before .before .before .put-byte .ensures ∙ ap (λ (k : ℕ). put (c .before .before .before .before .before .before .before .before .before .before .before .before .before .before .put-values .last .1 .0) (28 + 4 * n) (k ∷ [])) (c .before .before .before .before .before .before .before .before .before .before .marks-byte .ensures) in
+    let before-mark = c .before .before .before .before .before .before .before .before .before .before .before .before .before .before .put-values in
+    let mark = c .before .before .before .before .before .before .before .before .before .put-byte .ensures
+    ∙ ap (λ (k : ℕ). put (before-mark .last .1 .0) (28 + 4 * n) (k ∷ []))
+    (c .before .before .before .before .before .before .before .before .before .before .marks-byte .ensures) in
     then-put l _ _ 28 (28 + 4 * n + 1) (valuesBytes (take n x) ++ (marksByte y ∷ [])) (valuesBytes (take m (y .values)))
-    (then-put l _ _ 28 (28 + 4 * n) (valuesBytes (take n x)) (marksByte y ∷ []) (rw sub-zero at (c .before .before .before .before .before .before .before .before .before .before .before .before .before .before .put-values .ensures)) mark (omega (arith, states)) (omega (arith, s .pre)))
+    (then-put l _ _ 28 (28 + 4 * n) (valuesBytes (take n x)) (marksByte y ∷ [])
+    (rw sub-zero at (before-mark .ensures)) mark (omega (arith, states)) (omega (arith, s .pre)))
     (rw sub-zero at (c .before .before .put-values2 .ensures))
     (simp (length-append, states) (omega arith))
     (omega (arith, values, s .pre))

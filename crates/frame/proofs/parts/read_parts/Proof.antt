@@ -18,14 +18,17 @@ facts s = pairs-facts _ _ _ (s .pre .3)
 
 -- the parts that the pairs give are the state's and the readings'
 state-part : (c : tie.After-u16-at4)
-    → part (c .before .before .before .before .before .args .bytes .now) (c .before .before .before .u16-at .result) (c .before .before .before .u16-at .result + c .before .before .u16-at2 .result - c .before .before .before .u16-at .result)
+    → part (c .before .before .before .before .before .args .bytes .now) (c .before .before .before .u16-at .result)
+    (c .before .before .before .u16-at .result + c .before .before .u16-at2 .result - c .before .before .before .u16-at .result)
     ≡ statePart (c .before .before .before .before .before .args .n) (c .before .before .before .before .before .args .bytes .now)
 state-part c =
-    let f = facts (c .before .before .before .before .before) in part-of _ _ _ _ _ (c .before .before .before .u16-at .ensures ∙ f .at20) (c .before .before .u16-at2 .ensures ∙ f .at22)
+    let f = facts (c .before .before .before .before .before) in
+    part-of _ _ _ _ _ (c .before .before .before .u16-at .ensures ∙ f .at20) (c .before .before .u16-at2 .ensures ∙ f .at22)
 
 readings-part : (c : tie.After-u16-at4)
     → part (c .before .before .before .before .before .args .bytes .now) (c .before .u16-at3 .result) (c .before .u16-at3 .result + c .u16-at4 .result - c .before .u16-at3 .result)
-    ≡ readingsPart (c .before .before .before .before .before .args .n) (c .before .before .before .before .before .args .m) (c .before .before .before .before .before .args .bytes .now)
+    ≡ readingsPart (c .before .before .before .before .before .args .n) (c .before .before .before .before .before .args .m)
+    (c .before .before .before .before .before .args .bytes .now)
 readings-part c =
     let f = facts (c .before .before .before .before .before) in part-of _ _ _ _ _ (c .before .u16-at3 .ensures ∙ f .at24) (c .u16-at4 .ensures ∙ f .at26)
 
@@ -49,7 +52,9 @@ u16-at-requires-4 : tie.Need-u16-at-requires-4
 u16-at-requires-4 c κs = search needs
 
 add-readings-end : tie.Need-add-readings-end
-add-readings-end c = let f = facts (c .before .before .before .before .before) in omega (arith, c .before .u16-at3 .ensures ∙ f .at24, c .u16-at4 .ensures ∙ f .at26, c .before .before .before .before .before .pre)
+add-readings-end c =
+    let f = facts (c .before .before .before .before .before) in
+    omega (arith, c .before .u16-at3 .ensures ∙ f .at24, c .u16-at4 .ensures ∙ f .at26, c .before .before .before .before .before .pre)
 
 sub-read-state : tie.Need-sub-read-state
 sub-read-state c = search needs
@@ -59,7 +64,13 @@ part-read-state-start c = search needs
 
 part-read-state-end : tie.Need-part-read-state-end
 part-read-state-end c =
-    let f = facts (c .before .before .before .before .before) in omega (arith, c .before .before .before .u16-at .ensures ∙ f .at20, c .before .before .u16-at2 .ensures ∙ f .at22, c .before .before .before .before .before .pre)
+    let f = facts (c .before .before .before .before .before) in
+    omega (
+      arith,
+      c .before .before .before .u16-at .ensures ∙ f .at20,
+      c .before .before .u16-at2 .ensures ∙ f .at22,
+      c .before .before .before .before .before .pre,
+    )
 
 read-state-requires : tie.Need-read-state-requires
 read-state-requires c κs =
@@ -74,7 +85,13 @@ part-part-start c = search needs
 
 part-part-end : tie.Need-part-part-end
 part-part-end c =
-    let f = facts (c .before .before .before .before .before .before .before) in omega (arith, c .before .before .before .u16-at3 .ensures ∙ f .at24, c .before .before .u16-at4 .ensures ∙ f .at26, c .before .before .before .before .before .before .before .pre)
+    let f = facts (c .before .before .before .before .before .before .before) in
+    omega (
+      arith,
+      c .before .before .before .u16-at3 .ensures ∙ f .at24,
+      c .before .before .u16-at4 .ensures ∙ f .at26,
+      c .before .before .before .before .before .before .before .pre,
+    )
 
 shared-slice-read-marks : tie.Need-shared-slice-read-marks
 shared-slice-read-marks c =
@@ -82,7 +99,8 @@ shared-slice-read-marks c =
 
 read-readings-requires : tie.Need-read-readings-requires
 read-readings-requires c κs =
-    let u = c .before .before .before .before in (u .before .before .before .before .before .pre .1, rw (readings-part u) (readings-length (u .before .before .before .before .before)))
+    let u = c .before .before .before .before in
+    (u .before .before .before .before .before .pre .1, rw (readings-part u) (readings-length (u .before .before .before .before .before)))
 
 returns : tie.Need-returns
 returns c =

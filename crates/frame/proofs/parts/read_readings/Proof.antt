@@ -45,7 +45,15 @@ returns : tie.Need-returns
 unfolding readingsIn
 returns c =
     let s = c .before .before .before .before .before .before .before in
-    rw (c .before .before .before .before .marks-in .ensures, c .before .read-values .ensures, blanks s, length-replicate, drop-blanks (pos 0) (s .args .m) 4, to-the-end (s .args .part .now) 1, filled-pad (pos 0) 4 (s .args .m) (valueAt (drop 1 (s .args .part .now))) (s .pre .0))
+    rw (
+      c .before .before .before .before .marks-in .ensures,
+      c .before .read-values .ensures,
+      blanks s,
+      length-replicate,
+      drop-blanks (pos 0) (s .args .m) 4,
+      to-the-end (s .args .part .now) 1,
+      filled-pad (pos 0) 4 (s .args .m) (valueAt (drop 1 (s .args .part .now))) (s .pre .0),
+    )
 
 pub read-readings-spec : {M : Type 1} → statement M
 read-readings-spec =

@@ -1,6 +1,5 @@
 -- `frame::word::bits` meets its contract: a negative number is −1 − k, and its bits are 4294967295 − k. Assumes nothing.
 use mathlib.Core.Path.{_≡_}
-use Prim.Native.Nat.{_-_}
 use native.Mathlib.Omega.{arith}
 use mir.Syntax.{w32}
 use mir.Val.{toZ, ofZ}

@@ -1,6 +1,6 @@
--- `law::ranges::row_in_range` meets its contract. The loop's invariant: `all` says whether the first j are in range. Assumes nothing.
+-- `law::ranges::row_in_range` meets its contract. The loop's invariant: the first j are in range. Assumes nothing.
 use mathlib.Core.Path.{_≡_, sym, ap, _∙_}
-use mathlib.Core.Bool.{Bool, _&&_}
+use mathlib.Core.Bool.{Bool, true, false, _&&_}
 use mathlib.Core.List.{List}
 use Prim.Native.Nat.{ℕ, _+_, _-_, _≤_}
 use native.Mathlib.Omega.{arith}
@@ -8,9 +8,10 @@ use lib.IntN.{ℤ}
 use mir.Syntax.{w32}
 use mir.Val.{SFits}
 use mir.Facts.{toZ-ofZ}
+use borrow.Author.Tests.{not-true, not-false}
 use Rattle.readings.specs.Places.{entry}
 use Rattle.law.specs.Settings.{every, inRange}
-use Rattle.law.proofs.Sums.{every-none, every-more}
+use Rattle.law.proofs.Sums.{every-none, every-with, every-without}
 use Rattle.law.proofs.ranges.row_in_range.Statement.{statement}
 use Rattle.law.proofs.ranges.row_in_range.Tie as tie
 
@@ -18,25 +19,39 @@ abbrev test : List ℤ → ℕ → ℕ → Bool
 test table at j = inRange (entry table (at + j))
 
 abbrev Inv-loop : tie.InvT-loop
-Inv-loop table at n all₀ j₀ all j = (j ≤ n) × (all ≡ every j (test table at))
+Inv-loop table at n j₀ j = (j ≤ n) × (every j (test table at) ≡ true)
 
 abbrev μ-loop : tie.MeasureT-loop
-μ-loop table at n all₀ j₀ all j = n - j
+μ-loop table at n j₀ j = n - j
+
+-- what the test of one coefficient says
+here : (c : tie.After-in-range Inv-loop μ-loop) →
+    c .in-range .result ≡ test (c .before .before .before .before .args .table .now) (c .before .before .before .before .args .at) (c .before .before .before .loop .j)
+here c =
+    let s = c .before .before .before .before .args in
+    let fits : SFits w32 (entry (s .table .now) (s .at + c .before .before .before .loop .j)) = record { sfits = c .before .in-range-arg .given } in
+    simp (toZ-ofZ, fits) at (c .in-range .ensures)
 
 loop-holds : tie.Need-loop-holds Inv-loop μ-loop
-loop-holds c = (omega arith, sym (every-none _))
+loop-holds c = (omega arith, every-none _)
 
-add-also-in-range : tie.Need-add-also-in-range Inv-loop μ-loop
-add-also-in-range c = omega arith
+add-in-range : tie.Need-add-in-range Inv-loop μ-loop
+add-in-range c = omega arith
 
-mul-also-in-range : tie.Need-mul-also-in-range Inv-loop μ-loop
-mul-also-in-range c = omega arith
+mul-in-range : tie.Need-mul-in-range Inv-loop μ-loop
+mul-in-range c = omega arith
 
-shared-slice-copy-out-also-in-range : tie.Need-shared-slice-copy-out-also-in-range Inv-loop μ-loop
-shared-slice-copy-out-also-in-range c = omega arith
+shared-slice-copy-out-in-range : tie.Need-shared-slice-copy-out-in-range Inv-loop μ-loop
+shared-slice-copy-out-in-range c = omega arith
 
-also-in-range-requires : tie.Need-also-in-range-requires Inv-loop μ-loop
-also-in-range-requires c κs = tt
+in-range-requires : tie.Need-in-range-requires Inv-loop μ-loop
+in-range-requires c κs = tt
+
+returns : tie.Need-returns Inv-loop μ-loop
+returns c =
+    let l = c .before .before .before .before .loop in
+    let s = c .before .before .before .before .before .args in
+    sym (every-without (s .n) (l .j) (test (s .table .now) (s .at)) (c .before .before .before .loop-test .taken) (sym (here (c .before)) ∙ not-true _ (c .if1 .taken)))
 
 add-j : tie.Need-add-j Inv-loop μ-loop
 add-j c = omega arith
@@ -46,19 +61,15 @@ loop-less c = omega arith
 
 loop-again : tie.Need-loop-again Inv-loop μ-loop
 loop-again c =
-    let s = c .before .before .before .before in
-    let l = c .before .before .before .loop in
-    let f = test (s .args .table .now) (s .args .at) in
-    let fits : SFits w32 (entry (s .args .table .now) (s .args .at + l .j)) = record { sfits = c .before .also-in-range-arg .given } in
-    let here : c .also-in-range .result ≡ l .all && f (l .j) = simp (toZ-ofZ, fits) at (c .also-in-range .ensures) in
-    (omega arith, here ∙ ap (λ (b : Bool). b && f (l .j)) (l .inv .1) ∙ sym (every-more (l .j) f))
+    let l = c .before .before .before .before .loop in
+    (omega arith, every-with (l .j) _ (l .inv .1) (sym (here (c .before)) ∙ not-false _ (c .if1 .left)))
 
-returns : tie.Need-returns Inv-loop μ-loop
-returns c =
+returns-2 : tie.Need-returns-2 Inv-loop μ-loop
+returns-2 c =
     let s = c .before .before in
     let l = c .before .loop in
     let done : l .j ≡ s .args .n = omega arith in
-    l .inv .1 ∙ ap (λ (k : ℕ). every k (test (s .args .table .now) (s .args .at))) done
+    sym (ap (λ (k : ℕ). every k (test (s .args .table .now) (s .args .at))) (sym done) ∙ l .inv .1)
 
 pub row-in-range-spec : {M : Type 1} → statement M
 row-in-range-spec =
@@ -67,11 +78,12 @@ row-in-range-spec =
     Inv-loop
     μ-loop
     loop-holds
-    add-also-in-range
-    mul-also-in-range
-    shared-slice-copy-out-also-in-range
-    also-in-range-requires
+    add-in-range
+    mul-in-range
+    shared-slice-copy-out-in-range
+    in-range-requires
+    returns
     add-j
     loop-less
     loop-again
-    returns)
+    returns-2)

@@ -20,7 +20,9 @@ returns c =
     rw (c .refused .ensures, e) (checked-gives-refused _ _ _ _ (λ z. c .before .if1 .taken (e ∙ z)))
 
 arrive-bytes-requires : tie.Need-arrive-bytes-requires
-arrive-bytes-requires c κs = let d = ready _ _ _ (sym (c .before .before .before .step-refusal .ensures) ∙ c .before .before .if1 .left) in (d .settings, d .frame-room, d .command-room)
+arrive-bytes-requires c κs =
+    let d = ready _ _ _ (sym (c .before .before .before .step-refusal .ensures) ∙ c .before .before .if1 .left) in
+    (d .settings, d .frame-room, d .command-room)
 
 same-length : tie.Need-same-length
 same-length c = search needs
@@ -30,7 +32,10 @@ same-length-2 c = search needs
 
 returns-2 : tie.Need-returns-2
 unfolding arriveOutcome
-returns-2 c = checked-gives _ _ _ _ (sym (c .before .before .before .before .before .before .before .before .step-refusal .ensures) ∙ c .before .before .before .before .before .before .before .if1 .left) (c .before .before .before .before .arrive-bytes .ensures)
+returns-2 c =
+    checked-gives _ _ _ _
+    (sym (c .before .before .before .before .before .before .before .before .step-refusal .ensures)
+    ∙ c .before .before .before .before .before .before .before .if1 .left) (c .before .before .before .before .arrive-bytes .ensures)
 
 pub arrive-spec : {M : Type 1} → statement M
 arrive-spec =

@@ -27,7 +27,10 @@ same-length c = search needs
 
 returns-2 : tie.Need-returns-2
 unfolding giveUpOutcome
-returns-2 c = checked-gives _ _ _ _ (sym (c .before .before .before .before .before .step-refusal .ensures) ∙ c .before .before .before .before .if1 .left) (gives-frame _ (c .before .before .give-up-view .ensures))
+returns-2 c =
+    checked-gives _ _ _ _
+    (sym (c .before .before .before .before .before .step-refusal .ensures) ∙ c .before .before .before .before .if1 .left)
+    (gives-frame _ (c .before .before .give-up-view .ensures))
 
 pub give-up-spec : {M : Type 1} → statement M
 give-up-spec =

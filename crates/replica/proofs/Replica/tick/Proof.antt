@@ -29,7 +29,9 @@ returns-2 : tie.Need-returns-2
 unfolding tickOutcome
 returns-2 c =
     let e = c .before .before .tick-refusal .ensures in
-    rw (c .refused2 .ensures, e) (checked-gives _ _ _ _ (sym (c .before .before .before .before .step-refusal .ensures) ∙ c .before .before .before .if1 .left) (tick-gives-refused _ _ _ _ (λ z. c .before .if2 .taken (e ∙ z))))
+    rw (c .refused2 .ensures, e)
+    (checked-gives _ _ _ _ (sym (c .before .before .before .before .step-refusal .ensures) ∙ c .before .before .before .if1 .left)
+    (tick-gives-refused _ _ _ _ (λ z. c .before .if2 .taken (e ∙ z))))
 
 ticked-requires : tie.Need-ticked-requires
 ticked-requires c κs = tick-done _ _ (sym (c .before .tick-refusal .ensures) ∙ c .if2 .left) .period
@@ -45,7 +47,14 @@ same-length c = search needs
 
 returns-3 : tie.Need-returns-3
 unfolding tickOutcome
-returns-3 c = checked-gives _ _ _ _ (sym (c .before .before .before .before .before .before .before .before .step-refusal .ensures) ∙ c .before .before .before .before .before .before .before .if1 .left) (tick-gives _ _ _ _ (tick-done _ _ (sym (c .before .before .before .before .before .before .tick-refusal .ensures) ∙ c .before .before .before .before .before .if2 .left)) (gives-frame _ (rw (c .before .before .before .before .ticked .ensures) at (c .before .before .after-tick .ensures))))
+returns-3 c =
+    checked-gives _ _ _ _
+    (sym (c .before .before .before .before .before .before .before .before .step-refusal .ensures)
+    ∙ c .before .before .before .before .before .before .before .if1 .left)
+    (tick-gives _ _ _ _
+    (tick-done _ _
+    (sym (c .before .before .before .before .before .before .tick-refusal .ensures) ∙ c .before .before .before .before .before .if2 .left))
+    (gives-frame _ (rw (c .before .before .before .before .ticked .ensures) at (c .before .before .after-tick .ensures))))
 
 pub tick-spec : {M : Type 1} → statement M
 tick-spec =

@@ -1,8 +1,7 @@
 -- `arrive_bytes` meets its contract. Assumes nothing.
-use lib.Dec.{eqb}
-use borrow.Author.Tests.{not-true, not-false}
+use borrow.Author.Tests.{eq-eqb, ne-eqb}
 use Rattle.replica.proofs.Calls.{found-none, found-some}
-use mathlib.Core.Path.{sym, ap, _∙_}
+use mathlib.Core.Path.{sym, _∙_}
 use Rattle.scram.specs.Events.{arrival}
 use Rattle.replica.proofs.Given.{gives-refused}
 use borrow.Author.Needs.{needs}
@@ -12,8 +11,8 @@ use Rattle.replica.proofs.arrivals.arrive_bytes.Tie as tie
 read-requires : tie.Need-read-requires
 read-requires c κs = search needs
 
-was-read-requires : tie.Need-was-read-requires
-was-read-requires c κs = search needs
+number-of-requires : tie.Need-number-of-requires
+number-of-requires c κs = search needs
 
 refused-requires : tie.Need-refused-requires
 refused-requires c κs = search needs
@@ -21,8 +20,10 @@ refused-requires c κs = search needs
 returns : tie.Need-returns
 unfolding arrival
 returns c =
-    let t = ap (λ k. eqb k 0) (sym (c .before .before .before .read .ensures .0)) ∙ sym (c .before .before .was-read .ensures) ∙ not-true _ (c .before .if1 .taken) in
-    rw (found-none (c .before .before .before .before .before .before .before .args .replica .settings) (c .before .before .before .before .before .before .before .args .bytes .now) t) (rw (c .refused .ensures) (gives-refused _ _ _ 8))
+    let a = c .before .before .before .before .before .before .before .args in
+    let e = c .before .before .number-of .ensures ∙ c .before .before .before .read .ensures .0 in
+    rw (found-none (a .replica .settings) (a .bytes .now) (ne-eqb _ 0 (λ z. c .before .if1 .taken (e ∙ z))))
+    (rw (c .refused .ensures) (gives-refused _ _ _ 8))
 
 arrive-frame-requires : tie.Need-arrive-frame-requires
 arrive-frame-requires c κs = search needs
@@ -36,15 +37,18 @@ same-length-2 c = search needs
 returns-2 : tie.Need-returns-2
 unfolding arrival
 returns-2 c =
-    let t = ap (λ k. eqb k 0) (sym (c .before .before .before .before .before .before .before .before .before .before .read .ensures .0)) ∙ sym (c .before .before .before .before .before .before .before .before .before .was-read .ensures) ∙ not-false _ (c .before .before .before .before .before .before .before .before .if1 .left) in
-    rw (found-some (c .before .before .before .before .before .before .before .before .before .before .before .before .before .before .args .replica .settings) (c .before .before .before .before .before .before .before .before .before .before .before .before .before .before .args .bytes .now) t) (rw (c .before .before .before .before .before .before .before .before .before .before .read .ensures .1) at (c .before .before .before .before .arrive-frame .ensures))
+    let a = c .before .before .before .before .before .before .before .before .before .before .before .before .before .before .args in
+    let found = c .before .before .before .before .before .before .before .before .before .before .read .ensures in
+    let e = c .before .before .before .before .before .before .before .before .before .number-of .ensures ∙ found .0 in
+    let done = eq-eqb _ 0 (sym e ∙ c .before .before .before .before .before .before .before .before .if1 .left) in
+    rw (found-some (a .replica .settings) (a .bytes .now) done) (rw (found .1) at (c .before .before .before .before .arrive-frame .ensures))
 
 pub arrive-bytes-spec : {M : Type 1} → statement M
 arrive-bytes-spec =
     tie.close
     (tie.spec
     read-requires
-    was-read-requires
+    number-of-requires
     refused-requires
     returns
     arrive-frame-requires

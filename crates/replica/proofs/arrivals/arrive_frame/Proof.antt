@@ -27,10 +27,14 @@ place-test c =
 place : (c : tie.After-bad-place) → c .bad-place .result ≡ place-test c
 place c =
     let s = c .before .before .before .before .before .before .before .args in
-    c .bad-place .ensures ∙ ap₂ (λ k v. badPlace k v (s .replica .settings .own) (s .f .sender)) (c .before .before .before .before .kind-of .ensures) (c .before .coordinator .ensures)
+    c .bad-place .ensures
+    ∙ ap₂ (λ k v. badPlace k v (s .replica .settings .own) (s .f .sender)) (c .before .before .before .before .kind-of .ensures)
+    (c .before .coordinator .ensures)
 
 abbrev base-test : (c : tie.After-bad-base) → Bool
-base-test c = let f = c .before .before .before .before .before .before .before .before .before .args .f in badBase (kindOf (f .kind)) (f .period) (f .view) (f .«base_view») (f .«base_period»)
+base-test c =
+    let f = c .before .before .before .before .before .before .before .before .before .args .f in
+    badBase (kindOf (f .kind)) (f .period) (f .view) (f .«base_view») (f .«base_period»)
 
 base : (c : tie.After-bad-base) → c .bad-base .result ≡ base-test c
 base c =
@@ -108,7 +112,9 @@ returns-4 c =
     (rw (c .ignored .ensures) (gives-ignored _ _ _)))))
 
 receive-requires : tie.Need-receive-requires
-receive-requires c κs = let s = c .before .before .before .before .before .before .before .before .before .before .before .before .before .before in (s .pre .0, s .pre .1, s .pre .2, sender-low (c .before .before .before .before .before .before .before .before .before))
+receive-requires c κs =
+    let s = c .before .before .before .before .before .before .before .before .before .before .before .before .before .before in
+    (s .pre .0, s .pre .1, s .pre .2, sender-low (c .before .before .before .before .before .before .before .before .before))
 
 same-length : tie.Need-same-length
 same-length c = search needs
@@ -122,7 +128,9 @@ returns-5 c =
     gives-false _ _ (sender-fits (c .before .before .before .before .before .before .before .before .before .before .before .before .before .before))
     (gives-false _ _ (place-fits (c .before .before .before .before .before .before .before .before .before .before .before))
     (gives-false _ _ (base-fits (c .before .before .before .before .before .before .before .before .before))
-    (gives-false _ _ (sym (c .before .before .before .before .before .before .before .before .ignores .ensures) ∙ c .before .before .before .before .before .before .before .if4 .left)
+    (gives-false _ _
+    (sym (c .before .before .before .before .before .before .before .before .ignores .ensures)
+    ∙ c .before .before .before .before .before .before .before .if4 .left)
     (rw (c .before .before .before .before .before .before .before .before .before .before .before .before .before .before .before .before .kind-of .ensures) at (c .before .before .before .before .receive .ensures)))))
 
 pub arrive-frame-spec : {M : Type 1} → statement M

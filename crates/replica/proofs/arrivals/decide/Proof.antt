@@ -10,10 +10,14 @@ hearing-requires : tie.Need-hearing-requires
 hearing-requires c κs = search needs
 
 send-requires : tie.Need-send-requires
-send-requires c κs = let s = c .before .before .before .before .before .before .before in (frame-sizes _ (accepted _ (s .pre .0) .law), kind-ok Decide, s .pre .1)
+send-requires c κs =
+    let s = c .before .before .before .before .before .before .before .before in
+    (frame-sizes _ (accepted _ (s .pre .0) .law), kind-ok Decide, s .pre .1)
 
 issue-requires : tie.Need-issue-requires
-issue-requires c κs = let s = c .before .before .before .before .before .before .before .before .before .before .before .before in (accepted _ (s .pre .0) .law, s .pre .2)
+issue-requires c κs =
+    let s = c .before .before .before .before .before .before .before .before .before .before .before .before in
+    (accepted _ (s .pre .0) .law, s .pre .2)
 
 same-length : tie.Need-same-length
 same-length c = search needs

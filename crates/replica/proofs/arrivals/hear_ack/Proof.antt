@@ -1,7 +1,7 @@
 -- `hear_ack` meets its contract. Assumes nothing.
-use mathlib.Core.Path.{refl, sym, _∙_}
+use mathlib.Core.Path.{sym, _∙_}
 use Rattle.scram.specs.Events.{hearAck}
-use Rattle.replica.proofs.Given.{gives-true, gives-false}
+use Rattle.replica.proofs.Given.{gives-done, gives-true, gives-false}
 use borrow.Author.Needs.{needs}
 use Rattle.replica.proofs.arrivals.hear_ack.Statement.{statement}
 use Rattle.replica.proofs.arrivals.hear_ack.Tie as tie
@@ -20,14 +20,19 @@ same-length-2 c = search needs
 
 returns : tie.Need-returns
 unfolding hearAck
-returns c = gives-true _ _ (sym (c .before .before .before .before .before .before .before .before .majority-heard .ensures) ∙ c .before .before .before .before .before .before .before .if1 .taken) (c .before .before .before .before .decide .ensures)
+returns c =
+    gives-true _ _
+    (sym (c .before .before .before .before .before .before .before .before .majority-heard .ensures)
+    ∙ c .before .before .before .before .before .before .before .if1 .taken) (c .before .before .before .before .decide .ensures)
 
 hearing-requires : tie.Need-hearing-requires
 hearing-requires c κs = search needs
 
 returns-2 : tie.Need-returns-2
 unfolding hearAck
-returns-2 c = gives-false _ _ (sym (c .before .before .before .majority-heard .ensures) ∙ c .before .before .if1 .left) (record { answer = refl; replica = c .hearing .ensures; frame-length = refl; command-length = refl; frame-bytes = refl; command-bytes = refl })
+returns-2 c =
+    gives-false _ _ (sym (c .before .before .before .majority-heard .ensures) ∙ c .before .before .if1 .left)
+    (gives-done (c .hearing .ensures))
 
 pub hear-ack-spec : {M : Type 1} → statement M
 hear-ack-spec =

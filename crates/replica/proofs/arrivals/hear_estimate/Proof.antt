@@ -1,9 +1,9 @@
 -- `hear_estimate` meets its contract. Assumes nothing.
 use Rattle.scram.specs.Events.{hearing}
 use Rattle.replica.specs.Held.{heldBest, held, replicaOf}
-use mathlib.Core.Path.{refl, sym, ap, _∙_}
+use mathlib.Core.Path.{sym, ap, _∙_}
 use Rattle.scram.specs.Events.{hearEstimate}
-use Rattle.replica.proofs.Given.{gives-true, gives-false}
+use Rattle.replica.proofs.Given.{gives-done, gives-true, gives-false}
 use borrow.Author.Needs.{needs}
 use Rattle.replica.proofs.arrivals.hear_estimate.Statement.{statement}
 use Rattle.replica.proofs.arrivals.hear_estimate.Tie as tie
@@ -22,7 +22,11 @@ same-length c = search needs
 
 returns : tie.Need-returns
 unfolding hearEstimate
-returns c = gives-true _ _ (sym (c .before .before .before .before .before .before .before .majority-heard .ensures) ∙ c .before .before .before .before .before .before .if1 .taken) (rw (c .before .before .before .before .before .before .before .before .better .ensures) at (c .before .before .propose .ensures))
+returns c =
+    gives-true _ _
+    (sym (c .before .before .before .before .before .before .before .majority-heard .ensures)
+    ∙ c .before .before .before .before .before .before .if1 .taken)
+    (rw (c .before .before .before .before .before .before .before .before .better .ensures) at (c .before .before .propose .ensures))
 
 hearing-requires : tie.Need-hearing-requires
 hearing-requires c κs = search needs
@@ -30,15 +34,13 @@ hearing-requires c κs = search needs
 returns-2 : tie.Need-returns-2
 unfolding hearEstimate
 returns-2 c =
-    let r = c .before .before .before .before .before .before .args .replica in
-    gives-false _ _ (sym (c .before .before .majority-heard .ensures) ∙ c .before .if1 .left) (record {
-      answer = refl;
-      replica = c .hearing .ensures ∙ ap (λ x. replicaOf (r .settings) (hearing (held r) (c .before .before .before .before .before .before .args .estimate .«box_number») (heldBest x) (r .decided))) (c .before .before .before .better .ensures);
-      frame-length = refl;
-      command-length = refl;
-      frame-bytes = refl;
-      command-bytes = refl;
-    })
+    let a = c .before .before .before .before .before .before .args in
+    let r = a .replica in
+    gives-false _ _ (sym (c .before .before .majority-heard .ensures) ∙ c .before .if1 .left)
+    (gives-done
+    (c .hearing .ensures
+    ∙ ap (λ x. replicaOf (r .settings) (hearing (held r) (a .estimate .«box_number») (heldBest x) (r .decided)))
+    (c .before .before .before .better .ensures)))
 
 pub hear-estimate-spec : {M : Type 1} → statement M
 hear-estimate-spec =

@@ -30,8 +30,13 @@ unwanted-requires c κs = search needs
 returns-3 : tie.Need-returns-3
 returns-3 c =
     let s = c .before .before .before .before .before .before .before in
-    rw (sym (c .before .before .before .before .before .before .idle .ensures) ∙ c .before .before .before .before .before .if1 .left, sym (c .before .before .before .before .stale .ensures) ∙ c .before .before .before .if2 .left)
-    (c .unwanted .ensures ∙ ap (λ k. unwanted k (s .args .replica .view) (s .args .replica .«view_change») (among (s .args .replica .heard) (s .args .f .sender)) (s .args .f .view)) (s .pre .1))
+    rw (
+      sym (c .before .before .before .before .before .before .idle .ensures) ∙ c .before .before .before .before .before .if1 .left,
+      sym (c .before .before .before .before .stale .ensures) ∙ c .before .before .before .if2 .left,
+    )
+    (c .unwanted .ensures
+    ∙ ap (λ k. unwanted k (s .args .replica .view) (s .args .replica .«view_change») (among (s .args .replica .heard) (s .args .f .sender))
+    (s .args .f .view)) (s .pre .1))
 
 pub ignores-spec : {M : Type 1} → statement M
 ignores-spec =

@@ -17,7 +17,15 @@ same-length c = search needs
 
 returns : tie.Need-returns
 unfolding receive
-returns c = record { answer = refl; replica = c .before .before .before .before .before .adopting .ensures; frame-length = refl; command-length = c .before .before .issue .ensures .0; frame-bytes = refl; command-bytes = c .before .before .issue .ensures .1 }
+returns c =
+    record {
+      answer = refl;
+      replica = c .before .before .before .before .before .adopting .ensures;
+      frame-length = refl;
+      command-length = c .before .before .issue .ensures .0;
+      frame-bytes = refl;
+      command-bytes = c .before .before .issue .ensures .1;
+    }
 
 pub receive-decide-spec : {M : Type 1} → statement M
 receive-decide-spec = tie.close (tie.spec adopting-requires issue-requires same-length returns)

@@ -19,7 +19,9 @@ same-length c = search needs
 
 returns : tie.Need-returns
 unfolding receive
-returns c = gives-true _ _ (lt-ltb _ _ (c .before .before .before .before .before .if1 .taken)) (rw (c .before .before .before .before .entered .ensures) at (c .before .before .hear-estimate .ensures))
+returns c =
+    gives-true _ _ (lt-ltb _ _ (c .before .before .before .before .before .if1 .taken))
+    (rw (c .before .before .before .before .entered .ensures) at (c .before .before .hear-estimate .ensures))
 
 hear-estimate-requires-2 : tie.Need-hear-estimate-requires-2
 hear-estimate-requires-2 c κs = search needs

@@ -38,10 +38,16 @@ beats-requires : tie.Need-beats-requires
 beats-requires c κs = search needs
 
 returns-2 : tie.Need-returns-2
-returns-2 c = ap bestOf (sym (takes (heldBest (c .before .before .before .before .args .b)) (heldBest (c .before .before .before .before .args .c)) (sym (c .before .beats .ensures) ∙ c .if2 .taken)))
+returns-2 c =
+    ap bestOf
+    (sym (takes (heldBest (c .before .before .before .before .args .b)) (heldBest (c .before .before .before .before .args .c))
+    (sym (c .before .beats .ensures) ∙ c .if2 .taken)))
 
 returns-3 : tie.Need-returns-3
-returns-3 c = ap bestOf (sym (keeps (heldBest (c .before .before .before .before .args .b)) (heldBest (c .before .before .before .before .args .c)) (not-false _ (c .before .before .if1 .left)) (sym (c .before .beats .ensures) ∙ c .if2 .left)))
+returns-3 c =
+    ap bestOf
+    (sym (keeps (heldBest (c .before .before .before .before .args .b)) (heldBest (c .before .before .before .before .args .c))
+    (not-false _ (c .before .before .if1 .left)) (sym (c .before .beats .ensures) ∙ c .if2 .left)))
 
 pub better-spec : {M : Type 1} → statement M
 better-spec = tie.close (tie.spec returns beats-requires returns-2 returns-3)

@@ -16,13 +16,13 @@ returns c = simp (sym (c .before .bad-group .ensures) ∙ c .if1 .taken)
 check-requires : tie.Need-check-requires
 check-requires c κs = search needs
 
-law-number-requires : tie.Need-law-number-requires
-law-number-requires c κs = search needs
+number-of-requires : tie.Need-number-of-requires
+number-of-requires c κs = search needs
 
 returns-2 : tie.Need-returns-2
 unfolding settingsRefusal pick
-returns-2 c = simp (sym (c .before .before .before .before .bad-group .ensures) ∙ c .before .before .before .if1 .left) (c .law-number .ensures ∙ c .before .check .ensures)
+returns-2 c = simp (sym (c .before .before .before .before .bad-group .ensures) ∙ c .before .before .before .if1 .left) (c .number-of .ensures ∙ c .before .check .ensures)
 
 pub settings-refusal-spec : {M : Type 1} → statement M
 settings-refusal-spec =
-    tie.close (tie.spec bad-group-requires returns check-requires law-number-requires returns-2)
+    tie.close (tie.spec bad-group-requires returns check-requires number-of-requires returns-2)

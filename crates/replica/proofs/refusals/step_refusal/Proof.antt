@@ -19,11 +19,15 @@ short-area-requires c κs = search needs
 
 returns-2 : tie.Need-returns-2
 unfolding stepRefusal pick
-returns-2 c = let e = c .before .before .before .settings-refusal .ensures in simp (eq-eqb _ 0 (sym e ∙ c .before .before .if1 .left), sym (c .before .short-area .ensures) ∙ c .if2 .taken)
+returns-2 c =
+    let e = c .before .before .before .settings-refusal .ensures in
+    simp (eq-eqb _ 0 (sym e ∙ c .before .before .if1 .left), sym (c .before .short-area .ensures) ∙ c .if2 .taken)
 
 returns-3 : tie.Need-returns-3
 unfolding stepRefusal pick
-returns-3 c = let e = c .before .before .before .settings-refusal .ensures in simp (eq-eqb _ 0 (sym e ∙ c .before .before .if1 .left), sym (c .before .short-area .ensures) ∙ c .if2 .left)
+returns-3 c =
+    let e = c .before .before .before .settings-refusal .ensures in
+    simp (eq-eqb _ 0 (sym e ∙ c .before .before .if1 .left), sym (c .before .short-area .ensures) ∙ c .if2 .left)
 
 pub step-refusal-spec : {M : Type 1} → statement M
 step-refusal-spec =

@@ -20,11 +20,25 @@ returns-2 c = simp (lt-leb _ _ (c .before .before .if1 .left), sym (c .before .h
 
 returns-3 : tie.Need-returns-3
 unfolding tickRefusal pick
-returns-3 c = let b = c .before .before in simp (lt-leb _ _ (b .before .before .before .if1 .left), sym (b .before .before .has-stray-mark .ensures) ∙ b .before .if2 .left, b .if3 .taken, le-leb _ _ (c .if4 .taken))
+returns-3 c =
+    let b = c .before .before in
+    simp (
+      lt-leb _ _ (b .before .before .before .if1 .left),
+      sym (b .before .before .has-stray-mark .ensures) ∙ b .before .if2 .left,
+      b .if3 .taken,
+      le-leb _ _ (c .if4 .taken),
+    )
 
 returns-4 : tie.Need-returns-4
 unfolding tickRefusal pick
-returns-4 c = let b = c .before .before in simp (lt-leb _ _ (b .before .before .before .if1 .left), sym (b .before .before .has-stray-mark .ensures) ∙ b .before .if2 .left, b .if3 .taken, lt-leb _ _ (c .if4 .left))
+returns-4 c =
+    let b = c .before .before in
+    simp (
+      lt-leb _ _ (b .before .before .before .if1 .left),
+      sym (b .before .before .has-stray-mark .ensures) ∙ b .before .if2 .left,
+      b .if3 .taken,
+      lt-leb _ _ (c .if4 .left),
+    )
 
 returns-5 : tie.Need-returns-5
 unfolding tickRefusal pick

@@ -1,7 +1,7 @@
 -- `after_tick` meets its contract. Assumes nothing.
 use mathlib.Core.Path.{refl, sym, _∙_}
 use Rattle.scram.specs.Events.{afterTick}
-use Rattle.replica.proofs.Given.{gives-true, gives-false}
+use Rattle.replica.proofs.Given.{gives-done, gives-true, gives-false}
 use borrow.Author.Needs.{needs}
 use Rattle.replica.proofs.rules.after_tick.Statement.{statement}
 use Rattle.replica.proofs.rules.after_tick.Tie as tie
@@ -27,11 +27,18 @@ same-length-2 c = search needs
 
 returns-2 : tie.Need-returns-2
 unfolding afterTick
-returns-2 c = gives-false _ _ (c .before .before .before .before .before .before .before .before .if1 .left) (gives-true _ _ (sym (c .before .before .before .before .before .before .before .leads .ensures) ∙ c .before .before .before .before .before .before .if2 .taken) (c .before .before .propose .ensures))
+returns-2 c =
+    gives-false _ _ (c .before .before .before .before .before .before .before .before .if1 .left)
+    (gives-true _ _
+    (sym (c .before .before .before .before .before .before .before .leads .ensures)
+    ∙ c .before .before .before .before .before .before .if2 .taken) (c .before .before .propose .ensures))
 
 returns-3 : tie.Need-returns-3
 unfolding afterTick
-returns-3 c = gives-false _ _ (c .before .before .if1 .left) (gives-false _ _ (sym (c .before .leads .ensures) ∙ c .if2 .left) (record { answer = refl; replica = refl; frame-length = refl; command-length = refl; frame-bytes = refl; command-bytes = refl }))
+returns-3 c =
+    gives-false _ _ (c .before .before .if1 .left)
+    (gives-false _ _ (sym (c .before .leads .ensures) ∙ c .if2 .left)
+    (gives-done refl))
 
 pub after-tick-spec : {M : Type 1} → statement M
 after-tick-spec =

@@ -17,7 +17,15 @@ same-length : tie.Need-same-length
 same-length c = search needs
 
 returns : tie.Need-returns
-returns c = record { answer = refl; replica = c .before .before .before .before .before .before .following .ensures; frame-length = c .before .before .send .ensures .0; command-length = refl; frame-bytes = c .before .before .send .ensures .1; command-bytes = refl }
+returns c =
+    record {
+      answer = refl;
+      replica = c .before .before .before .before .before .before .following .ensures;
+      frame-length = c .before .before .send .ensures .0;
+      command-length = refl;
+      frame-bytes = c .before .before .send .ensures .1;
+      command-bytes = refl;
+    }
 
 pub follow-spec : {M : Type 1} → statement M
 follow-spec = tie.close (tie.spec following-requires send-requires same-length returns)

@@ -25,14 +25,21 @@ ignored-requires-2 c κs = search needs
 
 returns-2 : tie.Need-returns-2
 unfolding giveUp
-returns-2 c = gives-false _ _ (sym (c .before .before .before .before .idle .ensures) ∙ c .before .before .before .if1 .left) (gives-true _ _ (sym (c .before .before .normal-coordinator .ensures) ∙ c .before .if2 .taken) (rw (c .ignored2 .ensures) (gives-ignored _ _ _)))
+returns-2 c =
+    gives-false _ _ (sym (c .before .before .before .before .idle .ensures) ∙ c .before .before .before .if1 .left)
+    (gives-true _ _ (sym (c .before .before .normal-coordinator .ensures) ∙ c .before .if2 .taken)
+    (rw (c .ignored2 .ensures) (gives-ignored _ _ _)))
 
 refused-requires : tie.Need-refused-requires
 refused-requires c κs = search needs
 
 returns-3 : tie.Need-returns-3
 unfolding giveUp
-returns-3 c = gives-false _ _ (sym (c .before .before .before .before .before .before .idle .ensures) ∙ c .before .before .before .before .before .if1 .left) (gives-false _ _ (sym (c .before .before .before .before .normal-coordinator .ensures) ∙ c .before .before .before .if2 .left) (gives-true _ _ (le-leb _ _ (c .before .if3 .taken)) (rw (c .refused .ensures) (gives-refused _ _ _ 12))))
+returns-3 c =
+    gives-false _ _
+    (sym (c .before .before .before .before .before .before .idle .ensures) ∙ c .before .before .before .before .before .if1 .left)
+    (gives-false _ _ (sym (c .before .before .before .before .normal-coordinator .ensures) ∙ c .before .before .before .if2 .left)
+    (gives-true _ _ (le-leb _ _ (c .before .if3 .taken)) (rw (c .refused .ensures) (gives-refused _ _ _ 12))))
 
 raise-requires : tie.Need-raise-requires
 raise-requires c κs = search needs
@@ -42,7 +49,14 @@ same-length c = search needs
 
 returns-4 : tie.Need-returns-4
 unfolding giveUp
-returns-4 c = gives-false _ _ (sym (c .before .before .before .before .before .before .before .before .before .idle .ensures) ∙ c .before .before .before .before .before .before .before .before .if1 .left) (gives-false _ _ (sym (c .before .before .before .before .before .before .before .normal-coordinator .ensures) ∙ c .before .before .before .before .before .before .if2 .left) (gives-false _ _ (lt-leb _ _ (c .before .before .before .before .if3 .left)) (c .before .before .raise .ensures)))
+returns-4 c =
+    gives-false _ _
+    (sym (c .before .before .before .before .before .before .before .before .before .idle .ensures)
+    ∙ c .before .before .before .before .before .before .before .before .if1 .left)
+    (gives-false _ _
+    (sym (c .before .before .before .before .before .before .before .normal-coordinator .ensures)
+    ∙ c .before .before .before .before .before .before .if2 .left)
+    (gives-false _ _ (lt-leb _ _ (c .before .before .before .before .if3 .left)) (c .before .before .raise .ensures)))
 
 pub give-up-view-spec : {M : Type 1} → statement M
 give-up-view-spec =

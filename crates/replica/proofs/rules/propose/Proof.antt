@@ -18,7 +18,15 @@ same-length : tie.Need-same-length
 same-length c = search needs
 
 returns : tie.Need-returns
-returns c = record { answer = refl; replica = c .before .before .before .before .proposing .ensures; frame-length = c .before .before .send .ensures .0; command-length = refl; frame-bytes = c .before .before .send .ensures .1; command-bytes = refl }
+returns c =
+    record {
+      answer = refl;
+      replica = c .before .before .before .before .proposing .ensures;
+      frame-length = c .before .before .send .ensures .0;
+      command-length = refl;
+      frame-bytes = c .before .before .send .ensures .1;
+      command-bytes = refl;
+    }
 
 pub propose-spec : {M : Type 1} → statement M
 propose-spec = tie.close (tie.spec proposing-requires send-requires same-length returns)

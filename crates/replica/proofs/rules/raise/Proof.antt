@@ -1,9 +1,9 @@
 -- `raise` meets its contract. Assumes nothing.
-use mathlib.Core.Path.{refl, sym, _∙_}
+use mathlib.Core.Path.{sym, _∙_}
 use native.Mathlib.Omega.{arith}
 use Rattle.scram.specs.Events.{raise}
 use Rattle.replica.proofs.Accepted.{accepted}
-use Rattle.replica.proofs.Given.{gives-true, gives-false}
+use Rattle.replica.proofs.Given.{gives-done, gives-true, gives-false}
 use borrow.Author.Needs.{needs}
 use Rattle.replica.proofs.rules.raise.Statement.{statement}
 use Rattle.replica.proofs.rules.raise.Tie as tie
@@ -19,7 +19,9 @@ entered-requires c κs = let g = accepted _ (c .before .before .before .before .
 
 returns : tie.Need-returns
 unfolding raise
-returns c = gives-true _ _ (sym (c .before .before .leads .ensures) ∙ c .before .if1 .taken) (record { answer = refl; replica = c .entered .ensures; frame-length = refl; command-length = refl; frame-bytes = refl; command-bytes = refl })
+returns c =
+    gives-true _ _ (sym (c .before .before .leads .ensures) ∙ c .before .if1 .taken)
+    (gives-done (c .entered .ensures))
 
 follow-requires : tie.Need-follow-requires
 follow-requires c κs = search needs

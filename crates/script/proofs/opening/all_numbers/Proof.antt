@@ -8,8 +8,8 @@ use borrow.Author.Needs.{needs}
 use native.Mathlib.Omega.{arith}
 use Rattle.frame.specs.Marks.{allBelow}
 use Rattle.frame.proofs.Booleans.{all-more, one-fails}
-use Rattle.script.specs.Numbers.{numberOf, isWhole}
-use Rattle.script.specs.Fields.{field}
+use Rattle.line.specs.Numbers.{numberOf, isWhole}
+use Rattle.line.specs.Fields.{field}
 use Rattle.script.specs.Opening.{allNumbers}
 use Rattle.script.proofs.opening.all_numbers.Statement.{statement}
 use Rattle.script.proofs.opening.all_numbers.Tie as tie

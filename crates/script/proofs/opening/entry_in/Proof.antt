@@ -5,8 +5,8 @@ use mir.Syntax.{w32}
 use mir.ValLaws.{toZ-ofZ}
 use borrow.Author.Tests.{lt-ltb, le-ltb}
 use borrow.Author.Needs.{needs}
-use Rattle.script.specs.Numbers.{numberOf, valueIn}
-use Rattle.script.specs.Fields.{field}
+use Rattle.line.specs.Numbers.{numberOf, valueIn}
+use Rattle.line.specs.Fields.{field}
 use Rattle.script.specs.Opening.{entryOf}
 use Rattle.script.proofs.opening.entry_in.Statement.{statement}
 use Rattle.script.proofs.opening.entry_in.Tie as tie

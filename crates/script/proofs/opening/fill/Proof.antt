@@ -15,7 +15,8 @@ use Rattle.script.proofs.opening.fill.Statement.{statement}
 use Rattle.script.proofs.opening.fill.Tie as tie
 
 abbrev Inv-loop : tie.InvT-loop
-Inv-loop line from rows columns stride out₀ k₀ out k = (k ≤ length out₀) × (out ≡ filled (pos 0) (length out₀) k (entryOf line from rows columns stride)) × (length out ≡ length out₀)
+Inv-loop line from rows columns stride out₀ k₀ out k =
+    (k ≤ length out₀) × (out ≡ filled (pos 0) (length out₀) k (entryOf line from rows columns stride)) × (length out ≡ length out₀)
 
 abbrev μ-loop : tie.MeasureT-loop
 μ-loop line from rows columns stride out₀ k₀ out k = length out₀ - k

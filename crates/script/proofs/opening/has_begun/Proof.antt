@@ -19,15 +19,34 @@ returns-2 c = rw (sym (c .before .before .before .is-rig .ensures) ∙ not-false
 
 returns-3 : tie.Need-returns-3
 unfolding begun
-returns-3 c = rw (sym (c .before .before .before .before .before .is-rig .ensures) ∙ not-false _ (c .before .before .before .before .if1 .left), le-leb _ _ (c .before .before .if2 .left), lt-leb _ _ (c .if3 .taken))
+returns-3 c =
+    rw (
+      sym (c .before .before .before .before .before .is-rig .ensures) ∙ not-false _ (c .before .before .before .before .if1 .left),
+      le-leb _ _ (c .before .before .if2 .left),
+      lt-leb _ _ (c .if3 .taken),
+    )
 
 returns-4 : tie.Need-returns-4
 unfolding begun
-returns-4 c = rw (sym (c .before .before .before .before .before .before .before .is-rig .ensures) ∙ not-false _ (c .before .before .before .before .before .before .if1 .left), le-leb _ _ (c .before .before .before .before .if2 .left), le-leb _ _ (c .before .before .if3 .left), lt-leb _ _ (c .if4 .taken))
+returns-4 c =
+    rw (
+      sym (c .before .before .before .before .before .before .before .is-rig .ensures)
+          ∙ not-false _ (c .before .before .before .before .before .before .if1 .left),
+      le-leb _ _ (c .before .before .before .before .if2 .left),
+      le-leb _ _ (c .before .before .if3 .left),
+      lt-leb _ _ (c .if4 .taken),
+    )
 
 returns-5 : tie.Need-returns-5
 unfolding begun
-returns-5 c = rw (sym (c .before .before .before .before .before .before .before .before .is-rig .ensures) ∙ not-false _ (c .before .before .before .before .before .before .before .if1 .left), le-leb _ _ (c .before .before .before .before .before .if2 .left), le-leb _ _ (c .before .before .before .if3 .left), le-leb _ _ (c .before .if4 .left))
+returns-5 c =
+    rw (
+      sym (c .before .before .before .before .before .before .before .before .is-rig .ensures)
+          ∙ not-false _ (c .before .before .before .before .before .before .before .if1 .left),
+      le-leb _ _ (c .before .before .before .before .before .if2 .left),
+      le-leb _ _ (c .before .before .before .if3 .left),
+      le-leb _ _ (c .before .if4 .left),
+    )
 
 pub has-begun-spec : {M : Type 1} → statement M
 has-begun-spec =

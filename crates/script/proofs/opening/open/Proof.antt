@@ -41,7 +41,10 @@ unfolding openedBy
 returns-2 c =
     let line = c .before .before .before .before .before .before .before .before .args .line .now in
     let s = c .before .before .before .before .before .before .sizes-in .result in
-    let b = sym (c .before .before .before .before .has-begun .ensures ∙ ap (λ w. begun w s) (c .before .before .before .before .before .field .ensures)) ∙ not-false _ (c .before .before .before .if1 .left) in
+    let b =
+    sym (c .before .before .before .before .has-begun .ensures
+    ∙ ap (λ w. begun w s) (c .before .before .before .before .before .field .ensures))
+    ∙ not-false _ (c .before .before .before .if1 .left) in
     let n = ne-eqb _ _ (λ z. c .before .if2 .taken (c .before .before .sizes-refusal .ensures ∙ z)) in
     let x : c .shut2 .result ≡ openedBy line s = rw (b, n) (c .shut2 .ensures ∙ ap (λ k. shut (Refused k)) (c .before .before .sizes-refusal .ensures)) in
     x ∙ ap (openedBy line) (c .before .before .before .before .before .before .sizes-in .ensures)
@@ -60,7 +63,10 @@ unfolding openedBy openedWith
 returns-3 c =
     let line = c .before .before .before .before .before .before .before .before .before .before .before .args .line .now in
     let s = c .before .before .before .before .before .before .before .before .before .sizes-in .result in
-    let b = sym (c .before .before .before .before .before .before .before .has-begun .ensures ∙ ap (λ w. begun w s) (c .before .before .before .before .before .before .before .before .field .ensures)) ∙ not-false _ (c .before .before .before .before .before .before .if1 .left) in
+    let b =
+    sym (c .before .before .before .before .before .before .before .has-begun .ensures
+    ∙ ap (λ w. begun w s) (c .before .before .before .before .before .before .before .before .field .ensures))
+    ∙ not-false _ (c .before .before .before .before .before .before .if1 .left) in
     let z = eq-eqb _ _ (sym (c .before .before .before .before .before .sizes-refusal .ensures) ∙ c .before .before .before .before .if2 .left) in
     let at = c .before .before .before .starts-of .result in
     let y : c .shut3 .result ≡ openedWith line s at = rw (sym (c .before .before .is-numbered .ensures) ∙ not-true _ (c .before .if3 .taken)) (c .shut3 .ensures) in
@@ -74,17 +80,25 @@ law-in-requires c κs =
     (r .n, r .m, r .p, e .1, e .2, e .3, e .4, e .5, e .6)
 
 cast-t16 : tie.Need-cast-t16
-cast-t16 c = let r = in-range _ (sym (c .before .before .before .before .before .before .sizes-refusal .ensures) ∙ c .before .before .before .before .before .if2 .left) in record { fits = omega (arith, r .boxes) }
+cast-t16 c =
+    let r = in-range _
+    (sym (c .before .before .before .before .before .before .sizes-refusal .ensures)
+    ∙ c .before .before .before .before .before .if2 .left) in record { fits = omega (arith, r .boxes) }
 
 returns-4 : tie.Need-returns-4
 unfolding openedBy openedWith
 returns-4 c =
     let line = c .before .before .before .before .before .before .before .before .before .before .before .before .args .line .now in
     let s = c .before .before .before .before .before .before .before .before .before .before .sizes-in .result in
-    let b = sym (c .before .before .before .before .before .before .before .before .has-begun .ensures ∙ ap (λ w. begun w s) (c .before .before .before .before .before .before .before .before .before .field .ensures)) ∙ not-false _ (c .before .before .before .before .before .before .before .if1 .left) in
+    let b =
+    sym (c .before .before .before .before .before .before .before .before .has-begun .ensures
+    ∙ ap (λ w. begun w s) (c .before .before .before .before .before .before .before .before .before .field .ensures))
+    ∙ not-false _ (c .before .before .before .before .before .before .before .if1 .left) in
     let z = eq-eqb _ _ (sym (c .before .before .before .before .before .before .sizes-refusal .ensures) ∙ c .before .before .before .before .before .if2 .left) in
     let at = c .before .before .before .before .starts-of .result in
-    let y : openedAs s (c .before .law-in .result) ≡ openedWith line s at = rw (sym (c .before .before .before .is-numbered .ensures) ∙ not-false _ (c .before .before .if3 .left)) (ap (openedAs s) (c .before .law-in .ensures)) in
+    let y : openedAs s (c .before .law-in .result) ≡ openedWith line s at =
+    rw (sym (c .before .before .before .is-numbered .ensures) ∙ not-false _ (c .before .before .if3 .left))
+    (ap (openedAs s) (c .before .law-in .ensures)) in
     let x : openedAs s (c .before .law-in .result) ≡ openedBy line s = rw (b, z) (y ∙ ap (openedWith line s) (c .before .before .before .before .starts-of .ensures .0)) in
     x ∙ ap (openedBy line) (c .before .before .before .before .before .before .before .before .before .before .sizes-in .ensures)
 

@@ -3,7 +3,7 @@ use mathlib.Core.Path.{sym, ap, _∙_}
 use borrow.Author.Needs.{needs}
 use native.Mathlib.Omega.{arith}
 use Rattle.script.specs.Opening.{sizeIn}
-use Rattle.script.proofs.NumberLaws.{counted-fits}
+use Rattle.line.proofs.NumberLaws.{counted-fits}
 use Rattle.script.proofs.OpeningLaws.{size-below, size-large, size-at}
 use Rattle.script.proofs.opening.size_in.Statement.{statement}
 use Rattle.script.proofs.opening.size_in.Tie as tie
@@ -36,7 +36,8 @@ enum-told c = search needs
 returns-3 : tie.Need-returns-3
 returns-3 c =
     let g = c .before .before .before .z .given in
-    size-at (g .0 .0) (record { sfits = search needs }) (c .before .if1 .left) (c .if2 .left) ∙ ap sizeIn (sym (g .1) ∙ c .before .before .before .before .before .number-in .ensures)
+    size-at (g .0 .0) (record { sfits = search needs }) (c .before .if1 .left) (c .if2 .left)
+    ∙ ap sizeIn (sym (g .1) ∙ c .before .before .before .before .before .number-in .ensures)
 
 returns-4 : tie.Need-returns-4
 unfolding sizeIn

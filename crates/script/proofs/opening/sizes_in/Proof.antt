@@ -1,7 +1,7 @@
 -- `opening::sizes_in` meets its contract. Assumes nothing.
 use mathlib.Core.Path.{ap, _∙_}
 use borrow.Author.Needs.{needs}
-use Rattle.script.specs.Numbers.{numberOf}
+use Rattle.line.specs.Numbers.{numberOf}
 use Rattle.script.specs.Opening.{sizeIn, sizesIn}
 use Rattle.script.proofs.opening.sizes_in.Statement.{statement}
 use Rattle.script.proofs.opening.sizes_in.Tie as tie
@@ -33,7 +33,8 @@ size-in-requires-4 c κs = search needs
 returns : tie.Need-returns
 unfolding sizesIn
 returns c =
-    let b = c .before .before .before .before .before .before .size-in .ensures ∙ ap (λ w. sizeIn (numberOf w)) (c .before .before .before .before .before .before .before .field .ensures) in
+    let b = c .before .before .before .before .before .before .size-in .ensures
+    ∙ ap (λ w. sizeIn (numberOf w)) (c .before .before .before .before .before .before .before .field .ensures) in
     let n = c .before .before .before .before .size-in2 .ensures ∙ ap (λ w. sizeIn (numberOf w)) (c .before .before .before .before .before .field2 .ensures) in
     let m = c .before .before .size-in3 .ensures ∙ ap (λ w. sizeIn (numberOf w)) (c .before .before .before .field3 .ensures) in
     let p = c .size-in4 .ensures ∙ ap (λ w. sizeIn (numberOf w)) (c .before .field4 .ensures) in

@@ -19,25 +19,50 @@ is-from-one-requires c κs = search needs
 
 returns-3 : tie.Need-returns-3
 unfolding sizesRefusal
-returns-3 c = rw (le-ltb _ _ (c .before .before .before .before .if1 .left), le-ltb _ _ (c .before .before .if2 .left), sym (c .before .is-from-one .ensures) ∙ not-true _ (c .if3 .taken))
+returns-3 c =
+    rw (
+      le-ltb _ _ (c .before .before .before .before .if1 .left),
+      le-ltb _ _ (c .before .before .if2 .left),
+      sym (c .before .is-from-one .ensures) ∙ not-true _ (c .if3 .taken),
+    )
 
 is-from-one-requires-2 : tie.Need-is-from-one-requires-2
 is-from-one-requires-2 c κs = search needs
 
 returns-4 : tie.Need-returns-4
 unfolding sizesRefusal
-returns-4 c = rw (le-ltb _ _ (c .before .before .before .before .before .before .if1 .left), le-ltb _ _ (c .before .before .before .before .if2 .left), sym (c .before .before .before .is-from-one .ensures) ∙ not-false _ (c .before .before .if3 .left), sym (c .before .is-from-one2 .ensures) ∙ not-true _ (c .if4 .taken))
+returns-4 c =
+    rw (
+      le-ltb _ _ (c .before .before .before .before .before .before .if1 .left),
+      le-ltb _ _ (c .before .before .before .before .if2 .left),
+      sym (c .before .before .before .is-from-one .ensures) ∙ not-false _ (c .before .before .if3 .left),
+      sym (c .before .is-from-one2 .ensures) ∙ not-true _ (c .if4 .taken),
+    )
 
 is-from-one-requires-3 : tie.Need-is-from-one-requires-3
 is-from-one-requires-3 c κs = search needs
 
 returns-5 : tie.Need-returns-5
 unfolding sizesRefusal
-returns-5 c = rw (le-ltb _ _ (c .before .before .before .before .before .before .before .before .if1 .left), le-ltb _ _ (c .before .before .before .before .before .before .if2 .left), sym (c .before .before .before .before .before .is-from-one .ensures) ∙ not-false _ (c .before .before .before .before .if3 .left), sym (c .before .before .before .is-from-one2 .ensures) ∙ not-false _ (c .before .before .if4 .left), sym (c .before .is-from-one3 .ensures) ∙ not-true _ (c .if5 .taken))
+returns-5 c =
+    rw (
+      le-ltb _ _ (c .before .before .before .before .before .before .before .before .if1 .left),
+      le-ltb _ _ (c .before .before .before .before .before .before .if2 .left),
+      sym (c .before .before .before .before .before .is-from-one .ensures) ∙ not-false _ (c .before .before .before .before .if3 .left),
+      sym (c .before .before .before .is-from-one2 .ensures) ∙ not-false _ (c .before .before .if4 .left),
+      sym (c .before .is-from-one3 .ensures) ∙ not-true _ (c .if5 .taken),
+    )
 
 returns-6 : tie.Need-returns-6
 unfolding sizesRefusal
-returns-6 c = rw (le-ltb _ _ (c .before .before .before .before .before .before .before .before .if1 .left), le-ltb _ _ (c .before .before .before .before .before .before .if2 .left), sym (c .before .before .before .before .before .is-from-one .ensures) ∙ not-false _ (c .before .before .before .before .if3 .left), sym (c .before .before .before .is-from-one2 .ensures) ∙ not-false _ (c .before .before .if4 .left), sym (c .before .is-from-one3 .ensures) ∙ not-false _ (c .if5 .left))
+returns-6 c =
+    rw (
+      le-ltb _ _ (c .before .before .before .before .before .before .before .before .if1 .left),
+      le-ltb _ _ (c .before .before .before .before .before .before .if2 .left),
+      sym (c .before .before .before .before .before .is-from-one .ensures) ∙ not-false _ (c .before .before .before .before .if3 .left),
+      sym (c .before .before .before .is-from-one2 .ensures) ∙ not-false _ (c .before .before .if4 .left),
+      sym (c .before .is-from-one3 .ensures) ∙ not-false _ (c .if5 .left),
+    )
 
 pub sizes-refusal-spec : {M : Type 1} → statement M
 sizes-refusal-spec =

@@ -30,7 +30,10 @@ returns-2 c = sym (ap (λ e. playable e (c .before .before .before .args .number
 
 returns-3 : tie.Need-returns-3
 unfolding playable
-returns-3 c = c .was-sent .ensures ∙ sym (ap (λ e. playable e (c .before .before .before .before .before .args .number) (c .before .before .before .before .before .args .lengths .now)) (c .before .before .event .given .1))
+returns-3 c =
+    c .was-sent .ensures
+    ∙ sym (ap (λ e. playable e (c .before .before .before .before .before .args .number)
+    (c .before .before .before .before .before .args .lengths .now)) (c .before .before .event .given .1))
 
 returns-4 : tie.Need-returns-4
 unfolding playable

@@ -1,13 +1,14 @@
 -- `play::play_event` meets its contract. Assumes nothing.
 use mathlib.Core.Path.{ap, _∙_, subst}
 use lib.ListN.{getD, replicate}
-use borrow.Author.Needs.{needs}
 use native.Mathlib.Omega.{arith}
 use Rattle.replica.specs.Calls.{Gives}
-use Rattle.script.specs.Frames.{frameOf}
+use Rattle.line.specs.Frames.{frameOf}
 use Rattle.script.specs.Printing.{stepLine}
 use Rattle.script.specs.Play.{outcomeOf, eventOutcome}
-use Rattle.script.proofs.PlayLaws.{sent-fits, plays}
+use Rattle.line.proofs.PlaceLaws.{kept-there}
+use Rattle.script.proofs.PlayLaws.{sent-fits, leaves-step}
+use borrow.Author.Needs.{needs}
 use Rattle.script.proofs.play.play_event.Statement.{statement}
 use Rattle.script.proofs.play.play_event.Tie as tie
 
@@ -39,9 +40,7 @@ slice-aggregate-keep : tie.Need-slice-aggregate-keep
 slice-aggregate-keep c = search needs
 
 keep-requires : tie.Need-keep-requires
-keep-requires c κs =
-    let h = sent-fits (c .before .before .before .before .step .ensures) (c .before .before .before .before .step .kept .1 .1 .1 .1 .0) in
-    (omega (arith, h, c .before .before .before .before .step .kept .1 .1 .1 .1 .0), omega (arith, h, c .before .before .before .before .before .before .before .before .before .before .before .before .before .pre))
+keep-requires c κs = search needs
 
 mul-lengths : tie.Need-mul-lengths
 mul-lengths c = search needs
@@ -64,15 +63,28 @@ same-length c = search needs
 same-length-2 : tie.Need-same-length-2
 same-length-2 c = search needs
 
+same-length-3 : tie.Need-same-length-3
+same-length-3 c = search needs
+
 returns : tie.Need-returns
 unfolding eventOutcome
 returns c =
-    let a = c .before .before .before .before .before .before .before .before .before .before .before .before .before .before .before .before .before .before .before .before .args in
-    let t = c .before .before .before .before .before .before .before .before .before .before .before .step in
-    let bytes = c .before .before .before .before .before .before .before .before .before .before .before .before .before .before .frame-of .ensures ∙ ap (λ f. frameOf (a .table .now) f (getD (a .lengths .now) f 0)) (c .before .before .before .before .before .before .before .before .before .before .before .before .before .before .before .before .before .line-of .ensures) in
-    let g = subst (λ b. Gives (a .replica .settings) (outcomeOf (a .replica) (a .event) (a .readings) b 69 24) (t .result) (replicate 69 0) (t .last .1 .1 .1 .1 .0) (replicate 24 0) (t .last .1 .1 .1 .1 .1 .0)) bytes (t .ensures) in
-    plays _ _ (a .table .now) _ (a .lengths .now) (c .step-line .result) g (c .before .before .before .before .before .before .keep .ensures)
-    (c .step-line .ensures ∙ ap (λ b. stepLine (a .number) b (t .result) (t .last .1 .1 .1 .1 .1 .0)) (c .before .before .box-of .ensures))
+    let a = c .before .before .before .before .before .before .before .before .before .before .before .before .before .before .before .before .before .before .before .before .before .before .before .before .args in
+    let t = c .before .before .before .before .before .before .before .before .before .before .before .before .before .before .step in
+    let bytes =
+    c .before .before .before .before .before .before .before .before .before .before .before .before .before .before .before .before .before .frame-of .ensures
+    ∙ ap (λ f. frameOf (a .table .now) f (getD (a .lengths .now) f 0))
+    (c .before .before .before .before .before .before .before .before .before .before .before .before .before .before .before .before .before .before .before .before .line-of .ensures) in
+    let g = subst
+    (λ b. Gives (a .replica .settings) (outcomeOf (a .replica) (a .event) (a .readings) b 69 24) (t .result) (replicate 69 0)
+    (t .last .1 .1 .1 .1 .0) (replicate 24 0) (t .last .1 .1 .1 .1 .1 .0)) bytes (t .ensures) in
+    let most = sent-fits (t .ensures) (t .kept .1 .1 .1 .1 .0) in
+    let there =
+    kept-there (a .table .now) (a .number) (t .last .1 .1 .1 .1 .0) (t .result .frame)
+    (omega (arith, most, t .kept .1 .1 .1 .1 .0)) (omega (arith, most)) (omega (arith, most, c .before .before .before .before .before .before .before .before .before .before .before .before .before .before .before .before .before .before .before .before .before .before .before .before .pre)) in
+    leaves-step _ _ (a .table .now) _ (a .lengths .now) _
+    (c .before .before .step-line .result) g (c .before .before .before .before .before .before .before .before .before .keep .ensures ∙ there)
+    (c .before .before .step-line .ensures ∙ ap (λ b. stepLine (a .number) b (t .result) (t .last .1 .1 .1 .1 .1 .0)) (c .before .before .before .before .box-of .ensures))
 
 pub play-event-spec : {M : Type 1} → statement M
 play-event-spec =
@@ -95,4 +107,5 @@ play-event-spec =
     step-line-requires
     same-length
     same-length-2
+    same-length-3
     returns)

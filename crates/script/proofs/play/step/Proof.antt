@@ -41,7 +41,10 @@ unfolding outcomeOf
 returns c =
     let s = c .before .before .before .before .before .before .before .before .before .before .before .before .args in
     let t = c .before .before .before .before .tick in
-    subst (λ e. Gives (s .replica .settings) (outcomeOf (s .replica) e (s .readings) (s .arriving .now) (length (s .frame .now)) (length (s .command .now))) (t .result) (s .frame .now) (t .last .1 .1 .0) (s .command .now) (t .last .1 .1 .1 .0))
+    subst
+    (λ e. Gives (s .replica .settings)
+    (outcomeOf (s .replica) e (s .readings) (s .arriving .now) (length (s .frame .now)) (length (s .command .now))) (t .result)
+    (s .frame .now) (t .last .1 .1 .0) (s .command .now) (t .last .1 .1 .1 .0))
     (sym (c .before .before .before .before .before .before .before .enum-told .given .1)) (t .ensures)
 
 same-length-3 : tie.Need-same-length-3
@@ -55,7 +58,10 @@ unfolding outcomeOf
 returns-2 c =
     let s = c .before .before .before .before .before .before .before .before .before .before .before .before .args in
     let t = c .before .before .before .before .give-up in
-    subst (λ e. Gives (s .replica .settings) (outcomeOf (s .replica) e (s .readings) (s .arriving .now) (length (s .frame .now)) (length (s .command .now))) (t .result) (s .frame .now) (t .last .1 .0) (s .command .now) (t .last .1 .1 .0))
+    subst
+    (λ e. Gives (s .replica .settings)
+    (outcomeOf (s .replica) e (s .readings) (s .arriving .now) (length (s .frame .now)) (length (s .command .now))) (t .result)
+    (s .frame .now) (t .last .1 .0) (s .command .now) (t .last .1 .1 .0))
     (sym (c .before .before .before .before .before .before .before .enum-told2 .given .1)) (t .ensures)
 
 same-length-5 : tie.Need-same-length-5
@@ -69,14 +75,20 @@ unfolding outcomeOf
 returns-3 c =
     let s = c .before .before .before .before .before .before .before .before .before .before .before .before .args in
     let t = c .before .before .before .before .arrive in
-    subst (λ e. Gives (s .replica .settings) (outcomeOf (s .replica) e (s .readings) (s .arriving .now) (length (s .frame .now)) (length (s .command .now))) (t .result) (s .frame .now) (t .last .1 .1 .0) (s .command .now) (t .last .1 .1 .1 .0))
+    subst
+    (λ e. Gives (s .replica .settings)
+    (outcomeOf (s .replica) e (s .readings) (s .arriving .now) (length (s .frame .now)) (length (s .command .now))) (t .result)
+    (s .frame .now) (t .last .1 .1 .0) (s .command .now) (t .last .1 .1 .1 .0))
     (sym (c .before .before .before .before .before .before .before .enum-told3 .given .1)) (t .ensures)
 
 returns-4 : tie.Need-returns-4
 unfolding outcomeOf
 returns-4 c =
     let s = c .before .before .before .before .before .args in
-    subst (λ e. Gives (s .replica .settings) (outcomeOf (s .replica) e (s .readings) (s .arriving .now) (length (s .frame .now)) (length (s .command .now))) (ignoredStep (s .replica)) (s .frame .now) (s .frame .now) (s .command .now) (s .command .now))
+    subst
+    (λ e. Gives (s .replica .settings)
+    (outcomeOf (s .replica) e (s .readings) (s .arriving .now) (length (s .frame .now)) (length (s .command .now)))
+    (ignoredStep (s .replica)) (s .frame .now) (s .frame .now) (s .command .now) (s .command .now))
     (sym (c .enum-told4 .given .1)) (gives-ignored (s .replica) (s .frame .now) (s .command .now))
 
 pub step-spec : {M : Type 1} → statement M

@@ -1,8 +1,8 @@
 -- `printing::put_answer` meets its contract. Assumes nothing.
 use mathlib.Core.Path.{sym, ap, _∙_}
-use borrow.Author.Needs.{needs}
 use Rattle.script.specs.Text.{shown, with}
 use Rattle.script.specs.Printing.{answerWord}
+use borrow.Author.Needs.{needs}
 use Rattle.script.proofs.printing.put_answer.Statement.{statement}
 use Rattle.script.proofs.printing.put_answer.Tie as tie
 
@@ -30,17 +30,41 @@ enum-known-answer c = search needs
 put-refusal-requires : tie.Need-put-refusal-requires
 put-refusal-requires c κs = search needs
 
+same-length : tie.Need-same-length
+same-length c = search needs
+
 returns : tie.Need-returns
 unfolding answerWord
-returns c = c .put-word .ensures ∙ ap (λ a. with (shown (c .before .before .before .before .args .text)) (answerWord a)) (sym (c .before .before .enum-told .given .1))
+returns c =
+    c .before .before .put-word .ensures
+    ∙ ap (λ a. with
+    (shown (c .before .before .before .before .before .before .before .before .args .text .now)
+    (c .before .before .before .before .before .before .before .before .args .at)) (answerWord a))
+    (sym (c .before .before .before .before .before .enum-told .given .1))
+
+same-length-2 : tie.Need-same-length-2
+same-length-2 c = search needs
 
 returns-2 : tie.Need-returns-2
 unfolding answerWord
-returns-2 c = c .put-word2 .ensures ∙ ap (λ a. with (shown (c .before .before .before .before .args .text)) (answerWord a)) (sym (c .before .before .enum-told2 .given .1))
+returns-2 c =
+    c .before .before .put-word2 .ensures
+    ∙ ap (λ a. with
+    (shown (c .before .before .before .before .before .before .before .before .args .text .now)
+    (c .before .before .before .before .before .before .before .before .args .at)) (answerWord a))
+    (sym (c .before .before .before .before .before .enum-told2 .given .1))
+
+same-length-3 : tie.Need-same-length-3
+same-length-3 c = search needs
 
 returns-3 : tie.Need-returns-3
 unfolding answerWord
-returns-3 c = c .put-refusal .ensures ∙ ap (λ a. with (shown (c .before .before .before .before .args .text)) (answerWord a)) (sym (c .before .before .answer .given .1))
+returns-3 c =
+    c .before .before .put-refusal .ensures
+    ∙ ap (λ a. with
+    (shown (c .before .before .before .before .before .before .before .before .args .text .now)
+    (c .before .before .before .before .before .before .before .before .args .at)) (answerWord a))
+    (sym (c .before .before .before .before .before .answer .given .1))
 
 pub put-answer-spec : {M : Type 1} → statement M
 put-answer-spec =
@@ -54,6 +78,9 @@ put-answer-spec =
     put-word-requires-2
     enum-known-answer
     put-refusal-requires
+    same-length
     returns
+    same-length-2
     returns-2
+    same-length-3
     returns-3)

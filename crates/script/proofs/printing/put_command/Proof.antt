@@ -2,12 +2,12 @@
 use mathlib.Core.Path.{_≡_, ap, _∙_}
 use lib.ListN.{length, take}
 use borrow.Author.Tests.{eq-eqb, ne-eqb}
-use borrow.Author.Needs.{needs}
 use native.Mathlib.Omega.{arith}
-use Rattle.script.specs.Text.{shown, with, listed}
+use Rattle.script.specs.Text.{with, listed}
 use Rattle.script.specs.Printing.{commandWord}
 use Rattle.script.proofs.TextLaws.{then-with}
 use Rattle.script.proofs.PlaceLaws.{first-in-use}
+use borrow.Author.Needs.{needs}
 use Rattle.script.proofs.printing.put_command.Statement.{statement}
 use Rattle.script.proofs.printing.put_command.Tie as tie
 
@@ -20,9 +20,15 @@ put-byte-requires c κs = search needs
 put-byte-requires-2 : tie.Need-put-byte-requires-2
 put-byte-requires-2 c κs = search needs
 
+same-length : tie.Need-same-length
+same-length c = search needs
+
 returns : tie.Need-returns
 unfolding commandWord
-returns c = rw (eq-eqb _ _ (c .before .if1 .taken)) (then-with _ _ _ _ _ (c .before .before .put-byte .ensures) (c .put-byte2 .ensures))
+returns c =
+    rw (eq-eqb _ _ (c .before .before .before .before .if1 .taken))
+    (then-with _ _ _ _ _ (c .before .before .before .before .before .before .before .put-byte .ensures)
+    (c .before .before .put-byte2 .ensures))
 
 command-values-requires : tie.Need-command-values-requires
 command-values-requires c κs = search needs
@@ -37,21 +43,27 @@ part-put-list-start : tie.Need-part-put-list-start
 part-put-list-start c = search needs
 
 part-put-list-end : tie.Need-part-put-list-end
-part-put-list-end c = omega (arith, four (c .before .before), c .before .at-most .ensures)
+part-put-list-end c = omega (arith, four (c .before .before .before), c .before .before .at-most .ensures)
 
 put-list-requires : tie.Need-put-list-requires
 put-list-requires c κs = search needs
 
+same-length-2 : tie.Need-same-length-2
+same-length-2 c = search needs
+
 returns-2 : tie.Need-returns-2
 unfolding commandWord
 returns-2 c =
-    let s = c .before .before .before .before .before .before .before .before .args in
-    let v = c .before .before .before .before .command-values in
-    let u = c .before .before .before .at-most .ensures in
-    rw (ne-eqb _ _ (c .before .before .before .before .before .if1 .left))
-    (then-with _ _ _ _ _ (c .before .before .before .before .before .before .put-byte .ensures)
-    (c .put-list .ensures
-    ∙ ap (λ l. with (shown (c .before .before .before .before .before .before .put-byte .result)) (listed l)) (first-in-use (v .result) 4 (s .p) _ (four (c .before .before .before .before)) (u .1) (u .2) ∙ ap (take (s .p)) (v .ensures))))
+    let s = c .before .before .before .before .before .before .before .before .before .before .before .before .before .before .before .args in
+    let v = c .before .before .before .before .before .before .before .command-values in
+    let u = c .before .before .before .before .before .before .at-most .ensures in
+    rw (ne-eqb _ _ (c .before .before .before .before .before .before .before .before .if1 .left))
+    (then-with _ _ _ _ _ (c .before .before .before .before .before .before .before .before .before .before .before .put-byte .ensures)
+    (c .before .before .put-list .ensures
+    ∙ ap (with _)
+    (ap listed
+    (first-in-use (v .result) 4 (s .p) _ (four (c .before .before .before .before .before .before .before)) (u .1) (u .2)
+    ∙ ap (take (s .p)) (v .ensures)))))
 
 pub put-command-spec : {M : Type 1} → statement M
 put-command-spec =
@@ -59,6 +71,7 @@ put-command-spec =
     (tie.spec
     put-byte-requires
     put-byte-requires-2
+    same-length
     returns
     command-values-requires
     at-most-requires
@@ -66,4 +79,5 @@ put-command-spec =
     part-put-list-start
     part-put-list-end
     put-list-requires
+    same-length-2
     returns-2)

@@ -1,7 +1,7 @@
 -- `printing::put_counters` meets its contract. Assumes nothing.
-use borrow.Author.Needs.{needs}
 use Rattle.script.specs.Printing.{counterWords}
 use Rattle.script.proofs.TextLaws.{then-with}
+use borrow.Author.Needs.{needs}
 use Rattle.script.proofs.printing.put_counters.Statement.{statement}
 use Rattle.script.proofs.printing.put_counters.Tie as tie
 
@@ -17,9 +17,17 @@ put-counter-requires-3 c κs = search needs
 put-counter-requires-4 : tie.Need-put-counter-requires-4
 put-counter-requires-4 c κs = search needs
 
+same-length : tie.Need-same-length
+same-length c = search needs
+
 returns : tie.Need-returns
 unfolding counterWords
-returns c = then-with _ _ _ _ _ (c .before .before .before .put-counter .ensures) (then-with _ _ _ _ _ (c .before .before .put-counter2 .ensures) (then-with _ _ _ _ _ (c .before .put-counter3 .ensures) (c .put-counter4 .ensures)))
+returns c =
+    then-with _ _ _ _ _
+    (c .before .before .before .before .before .before .before .before .before .before .before .before .before .before .put-counter .ensures)
+    (then-with _ _ _ _ _ (c .before .before .before .before .before .before .before .before .before .before .put-counter2 .ensures)
+    (then-with _ _ _ _ _ (c .before .before .before .before .before .before .put-counter3 .ensures)
+    (c .before .before .put-counter4 .ensures)))
 
 pub put-counters-spec : {M : Type 1} → statement M
 put-counters-spec =
@@ -29,4 +37,5 @@ put-counters-spec =
     put-counter-requires-2
     put-counter-requires-3
     put-counter-requires-4
+    same-length
     returns)

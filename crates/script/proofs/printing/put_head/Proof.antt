@@ -1,12 +1,9 @@
 -- `printing::put_head` meets its contract. Assumes nothing.
-use borrow.Author.Needs.{needs}
 use Rattle.script.specs.Printing.{headWords}
 use Rattle.script.proofs.TextLaws.{then-with}
+use borrow.Author.Needs.{needs}
 use Rattle.script.proofs.printing.put_head.Statement.{statement}
 use Rattle.script.proofs.printing.put_head.Tie as tie
-
-empty-requires : tie.Need-empty-requires
-empty-requires c κs = search needs
 
 put-decimal-requires : tie.Need-put-decimal-requires
 put-decimal-requires c κs = search needs
@@ -20,17 +17,24 @@ put-byte-requires c κs = search needs
 put-answer-requires : tie.Need-put-answer-requires
 put-answer-requires c κs = search needs
 
+same-length : tie.Need-same-length
+same-length c = search needs
+
 returns : tie.Need-returns
 unfolding headWords
-returns c = then-with _ _ _ _ _ (rw (c .before .before .before .before .empty .ensures) at (c .before .before .before .put-decimal .ensures)) (then-with _ _ _ _ _ (c .before .before .put-counter .ensures) (then-with _ _ _ _ _ (c .before .put-byte .ensures) (c .put-answer .ensures)))
+returns c =
+    then-with _ _ _ _ _
+    (c .before .before .before .before .before .before .before .before .before .before .before .before .before .before .put-decimal .ensures)
+    (then-with _ _ _ _ _ (c .before .before .before .before .before .before .before .before .before .before .put-counter .ensures)
+    (then-with _ _ _ _ _ (c .before .before .before .before .before .before .put-byte .ensures) (c .before .before .put-answer .ensures)))
 
 pub put-head-spec : {M : Type 1} → statement M
 put-head-spec =
     tie.close
     (tie.spec
-    empty-requires
     put-decimal-requires
     put-counter-requires
     put-byte-requires
     put-answer-requires
+    same-length
     returns)

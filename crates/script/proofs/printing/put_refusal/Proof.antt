@@ -1,6 +1,6 @@
 -- `printing::put_refusal` meets its contract. Assumes nothing.
-use borrow.Author.Needs.{needs}
 use Rattle.script.proofs.TextLaws.{then-with}
+use borrow.Author.Needs.{needs}
 use Rattle.script.proofs.printing.put_refusal.Statement.{statement}
 use Rattle.script.proofs.printing.put_refusal.Tie as tie
 
@@ -10,8 +10,11 @@ put-byte-requires c κs = search needs
 put-decimal-requires : tie.Need-put-decimal-requires
 put-decimal-requires c κs = search needs
 
+same-length : tie.Need-same-length
+same-length c = search needs
+
 returns : tie.Need-returns
-returns c = then-with _ _ _ _ _ (c .before .put-byte .ensures) (c .put-decimal .ensures)
+returns c = then-with _ _ _ _ _ (c .before .before .before .before .before .before .put-byte .ensures) (c .before .before .put-decimal .ensures)
 
 pub put-refusal-spec : {M : Type 1} → statement M
-put-refusal-spec = tie.close (tie.spec put-byte-requires put-decimal-requires returns)
+put-refusal-spec = tie.close (tie.spec put-byte-requires put-decimal-requires same-length returns)

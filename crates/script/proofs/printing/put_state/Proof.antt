@@ -1,12 +1,12 @@
 -- `printing::put_state` meets its contract. Assumes nothing.
 use mathlib.Core.Path.{_≡_, ap, _∙_}
 use lib.ListN.{length}
-use borrow.Author.Needs.{needs}
 use native.Mathlib.Omega.{arith}
-use Rattle.script.specs.Text.{shown, with, listed}
+use Rattle.script.specs.Text.{with, listed}
 use Rattle.script.specs.Printing.{stateWord}
 use Rattle.script.proofs.TextLaws.{then-with}
 use Rattle.script.proofs.PlaceLaws.{first-in-use}
+use borrow.Author.Needs.{needs}
 use Rattle.script.proofs.printing.put_state.Statement.{statement}
 use Rattle.script.proofs.printing.put_state.Tie as tie
 
@@ -26,18 +26,30 @@ part-put-list-start : tie.Need-part-put-list-start
 part-put-list-start c = search needs
 
 part-put-list-end : tie.Need-part-put-list-end
-part-put-list-end c = omega (arith, six (c .before .before .before .before), c .before .before .at-most .ensures)
+part-put-list-end c =
+    omega (
+      arith,
+      six (c .before .before .before .before .before .before .before .before .before),
+      c .before .before .before .before .before .before .at-most .ensures,
+    )
 
 put-list-requires : tie.Need-put-list-requires
 put-list-requires c κs = search needs
 
+same-length : tie.Need-same-length
+same-length c = search needs
+
 returns : tie.Need-returns
 unfolding stateWord
 returns c =
-    let s = c .before .before .before .before .before .before .args in
-    let u = c .before .before .before .before .at-most .ensures in
-    then-with _ _ _ _ _ (c .before .before .before .put-byte .ensures)
-    (c .put-list .ensures ∙ ap (λ l. with (shown (c .before .before .before .put-byte .result)) (listed l)) (first-in-use (s .replica .state) 6 (s .replica .settings .law .n) _ (six (c .before .before .before .before .before .before)) (u .1) (u .2)))
+    let s = c .before .before .before .before .before .before .before .before .before .before .before .before .before .args in
+    let u = c .before .before .before .before .before .before .before .before .before .before .at-most .ensures in
+    then-with _ _ _ _ _ (c .before .before .before .before .before .before .before .before .put-byte .ensures)
+    (c .before .before .put-list .ensures
+    ∙ ap (with _)
+    (ap listed
+    (first-in-use (s .replica .state) 6 (s .replica .settings .law .n) _
+    (six (c .before .before .before .before .before .before .before .before .before .before .before .before .before)) (u .1) (u .2))))
 
 pub put-state-spec : {M : Type 1} → statement M
 put-state-spec =
@@ -49,4 +61,5 @@ put-state-spec =
     part-put-list-start
     part-put-list-end
     put-list-requires
+    same-length
     returns)

@@ -1,10 +1,12 @@
 -- `printing::step_line` meets its contract. Assumes nothing.
 use mathlib.Core.Path.{_≡_, _∙_}
+use mathlib.Core.List.{[], _∷_}
 use lib.ListN.{length}
-use borrow.Author.Needs.{needs}
+use Rattle.script.specs.Text.{with}
 use Rattle.script.specs.Printing.{stepLine}
 use Rattle.script.proofs.TextLaws.{then-with}
 use Rattle.script.proofs.LineLaws.{line-fits}
+use borrow.Author.Needs.{needs}
 use Rattle.script.proofs.printing.step_line.Statement.{statement}
 use Rattle.script.proofs.printing.step_line.Tie as tie
 
@@ -29,15 +31,22 @@ put-command-requires c κs = search needs
 put-byte-requires : tie.Need-put-byte-requires
 put-byte-requires c κs = search needs
 
+same-length : tie.Need-same-length
+same-length c = search needs
+
 returns : tie.Need-returns
 unfolding stepLine
 returns c =
-    then-with _ _ _ _ _ (c .before .before .before .before .before .put-head .ensures)
-    (then-with _ _ _ _ _ (c .before .before .before .before .put-counters .ensures)
-    (then-with _ _ _ _ _ (c .before .before .before .put-state .ensures)
-    (then-with _ _ _ _ _ (c .before .before .put-sent .ensures)
-    (then-with _ _ _ _ _ (c .before .put-command .ensures) (c .put-byte .ensures)))))
-    ∙ line-fits (c .before .before .before .before .before .before .before .before .args .number) (c .before .before .before .before .before .before .before .before .args .who) (c .before .before .before .before .before .before .before .before .args .s) (c .before .before .before .before .before .before .before .before .args .command .now) (six (c .before .before .before .before .before .before .before .before))
+    let a = c .before .before .before .before .before .before .before .before .before .before .before .before .before .before .before .before .before .before .before .before .before .before .before .before .before .before .before in
+    let feed : _ ≡ with _ (10 ∷ []) = c .before .before .put-byte .ensures in
+    then-with _ _ _ _ _
+    (c .before .before .before .before .before .before .before .before .before .before .before .before .before .before .before .before .before .before .before .before .before .before .put-head .ensures)
+    (then-with _ _ _ _ _
+    (c .before .before .before .before .before .before .before .before .before .before .before .before .before .before .before .before .before .before .put-counters .ensures)
+    (then-with _ _ _ _ _ (c .before .before .before .before .before .before .before .before .before .before .before .before .before .before .put-state .ensures)
+    (then-with _ _ _ _ _ (c .before .before .before .before .before .before .before .before .before .before .put-sent .ensures)
+    (then-with _ _ _ _ _ (c .before .before .before .before .before .before .put-command .ensures) feed))))
+    ∙ line-fits (a .args .number) (a .args .who) (a .args .s) (a .args .command .now) (six a)
 
 pub step-line-spec : {M : Type 1} → statement M
 step-line-spec =
@@ -49,4 +58,5 @@ step-line-spec =
     put-sent-requires
     put-command-requires
     put-byte-requires
+    same-length
     returns)

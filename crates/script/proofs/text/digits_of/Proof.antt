@@ -39,8 +39,12 @@ loop-less c = search needs
 
 loop-again : tie.Need-loop-again Inv-loop μ-loop
 loop-again c =
-    let l = c .before .before .before .loop in
-    (omega arith, simp length-set (l .inv .1), digits-more (l .bytes) (l .i) (l .rest) _ _ (l .inv .1) (l .inv .0) (omega arith) (c .if1 .left) (c .before .digit .ensures) (l .inv .2))
+    let l = c .before .before .before .loop in (
+      omega arith,
+      simp length-set (l .inv .1),
+      digits-more (l .bytes) (l .i) (l .rest) _ _ (l .inv .1) (l .inv .0) (omega arith) (c .if1 .left) (c .before .digit .ensures)
+          (l .inv .2),
+    )
 
 returns-2 : tie.Need-returns-2 Inv-loop μ-loop
 unfolding digitsBefore

@@ -1,6 +1,6 @@
 -- `text::put_behind_commas` meets its contract. The loop's invariant: the first i numbers were put. The measure is how many are left. Assumes
 -- nothing.
-use mathlib.Core.Path.{_≡_, _∙_}
+use mathlib.Core.Path.{_≡_, refl, _∙_}
 use Prim.Native.Nat.{_-_, _≤_, _<_}
 use lib.ListN.{length, take}
 use lib.Seq.{take-length}
@@ -15,17 +15,16 @@ use Rattle.script.proofs.text.put_behind_commas.Statement.{statement}
 use Rattle.script.proofs.text.put_behind_commas.Tie as tie
 
 abbrev Inv-loop : tie.InvT-loop
-Inv-loop values r₀ i₀ r i = (i ≤ length values) × (shown r ≡ with (shown r₀) (behindCommas (take i values)))
+Inv-loop text₀ at values end₀ i₀ text end i = (i ≤ length values) × (length text ≡ length text₀) × (shown text end ≡ with (shown text₀ at) (behindCommas (take i values)))
 
 abbrev μ-loop : tie.MeasureT-loop
-μ-loop values r₀ i₀ r i = length values - i
-
-held : (c : tie.Start Inv-loop μ-loop) → length (c .args .text .bytes) ≡ 256
-held c = search needs
+μ-loop text₀ at values end₀ i₀ text end i = length values - i
 
 loop-holds : tie.Need-loop-holds Inv-loop μ-loop
 unfolding behindCommas
-loop-holds c = (omega arith, with-none _ (shown-length (c .args .text .bytes) (c .args .text .length) (held c)))
+loop-holds c =
+    let s = c .before in
+    (omega arith, refl, with-none _ (shown-length (s .args .text .now) (s .args .at) (s .pre)))
 
 mul-z : tie.Need-mul-z Inv-loop μ-loop
 mul-z c = search needs
@@ -44,18 +43,21 @@ loop-less c = search needs
 
 loop-again : tie.Need-loop-again Inv-loop μ-loop
 loop-again c =
-    let l = c .before .before .before .loop in
-    let s = c .before .before .before .before .args in
+    let l = c .before .before .before .before .before .before .loop in
+    let s = c .before .before .before .before .before .before .before .before .args in
     let h : l .i < length (s .values .now) = omega arith in
-    let back = toZ-ofZ w32 (entry (s .values .now) (l .i)) (record { sfits = c .before .z .given }) in
-    (omega arith, rw (commas-more (s .values .now) (l .i) h) (then-with _ _ _ _ _ (l .inv .1) (rw back at (c .put-next .ensures))))
+    let back = toZ-ofZ w32 (entry (s .values .now) (l .i)) (record { sfits = c .before .before .before .before .z .given }) in
+    (omega arith, search needs, rw (commas-more (s .values .now) (l .i) h) (then-with _ _ _ _ _ (l .inv .2) (rw back at (c .before .before .put-next .ensures))))
+
+same-length : tie.Need-same-length Inv-loop μ-loop
+same-length c = search needs
 
 returns : tie.Need-returns Inv-loop μ-loop
 returns c =
     let l = c .before .loop in
-    let s = c .before .before .args in
+    let s = c .before .before .before .args in
     let e : l .i ≡ length (s .values .now) = omega arith in
-    l .inv .1 ∙ rw (e, take-length)
+    l .inv .2 ∙ rw (e, take-length)
 
 pub put-behind-commas-spec : {M : Type 1} → statement M
 put-behind-commas-spec =
@@ -70,4 +72,5 @@ put-behind-commas-spec =
     add-i
     loop-less
     loop-again
+    same-length
     returns)

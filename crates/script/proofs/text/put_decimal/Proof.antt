@@ -2,10 +2,10 @@
 use mathlib.Core.Path.{_≡_, sym, ap, _∙_}
 use Prim.Native.Nat.{_-_}
 use lib.ListN.{length, take, drop}
-use borrow.Author.Needs.{needs}
 use native.Mathlib.Omega.{arith}
 use Rattle.frame.proofs.Areas.{to-the-end}
 use Rattle.script.specs.Text.{with}
+use borrow.Author.Needs.{needs}
 use Rattle.script.proofs.text.put_decimal.Statement.{statement}
 use Rattle.script.proofs.text.put_decimal.Tie as tie
 
@@ -22,15 +22,22 @@ part-put-word-start : tie.Need-part-put-word-start
 part-put-word-start c = search needs
 
 part-put-word-end : tie.Need-part-put-word-end
-part-put-word-end c = omega (arith, ten (c .before .before))
+part-put-word-end c = omega (arith, ten (c .before .before .before))
 
 put-word-requires : tie.Need-put-word-requires
 put-word-requires c κs = search needs
 
+same-length : tie.Need-same-length
+same-length c = search needs
+
 returns : tie.Need-returns
 returns c =
-    let d = c .before .before .before .before .digits-of in
-    c .put-word .ensures ∙ ap (with _) (ap (λ n. take (n - d .result .from) (drop (d .result .from) (d .result .bytes))) (sym (ten (c .before .before .before .before))) ∙ to-the-end (d .result .bytes) (d .result .from) ∙ d .ensures .1)
+    let d = c .before .before .before .before .before .before .before .digits-of in
+    c .before .before .put-word .ensures
+    ∙ ap (with _)
+    (ap (λ n. take (n - d .result .from) (drop (d .result .from) (d .result .bytes)))
+    (sym (ten (c .before .before .before .before .before .before .before))) ∙ to-the-end (d .result .bytes) (d .result .from)
+    ∙ d .ensures .1)
 
 pub put-decimal-spec : {M : Type 1} → statement M
 put-decimal-spec =
@@ -41,4 +48,5 @@ put-decimal-spec =
     part-put-word-start
     part-put-word-end
     put-word-requires
+    same-length
     returns)

@@ -1,24 +1,21 @@
 -- `text::put_list` meets its contract. Assumes nothing.
-use mathlib.Core.Path.{_≡_, ap, _∙_}
+use mathlib.Core.Path.{ap, _∙_}
 use Prim.Native.Nat.{_<_}
 use lib.ListN.{length}
 use mir.Syntax.{w32}
 use mir.ValLaws.{toZ-ofZ}
-use borrow.Author.Needs.{needs}
 use native.Mathlib.Omega.{arith}
 use Rattle.readings.specs.Places.{entry}
-use Rattle.script.specs.Text.{shown, with, behindCommas}
+use Rattle.script.specs.Text.{with, behindCommas}
 use Rattle.script.proofs.TextLaws.{then-with, with-none, shown-length, listed-none, listed-some, all-behind}
+use borrow.Author.Needs.{needs}
 use Rattle.script.proofs.text.put_list.Statement.{statement}
 use Rattle.script.proofs.text.put_list.Tie as tie
 
-held : (c : tie.Start) → length (c .args .text .bytes) ≡ 256
-held c = search needs
-
 returns : tie.Need-returns
 returns c =
-    let s = c .before .args in
-    with-none _ (shown-length (s .text .bytes) (s .text .length) (held (c .before))) ∙ ap (with _) (listed-none (s .values .now) (omega arith))
+    let s = c .before .before in
+    with-none _ (shown-length (s .args .text .now) (s .args .at) (s .pre)) ∙ ap (with _) (listed-none (s .args .values .now) (omega arith))
 
 shared-slice-copy-out-put-signed : tie.Need-shared-slice-copy-out-put-signed
 shared-slice-copy-out-put-signed c = search needs
@@ -38,12 +35,16 @@ part-put-behind-commas-end c = search needs
 put-behind-commas-requires : tie.Need-put-behind-commas-requires
 put-behind-commas-requires c κs = search needs
 
+same-length : tie.Need-same-length
+same-length c = search needs
+
 returns-2 : tie.Need-returns-2
 returns-2 c =
-    let s = c .before .before .before .before .before .args in
+    let s = c .before .before .before .before .before .before .before .before .before .before .before .before .args in
     let h : 0 < length (s .values .now) = omega arith in
-    let back = toZ-ofZ w32 (entry (s .values .now) 0) (record { sfits = c .before .before .before .put-signed-arg .given }) in
-    then-with _ _ _ _ _ (rw back at (c .before .before .put-signed .ensures)) (c .put-behind-commas .ensures ∙ ap (λ l. with (shown (c .before .before .put-signed .result)) (behindCommas l)) (all-behind (s .values .now)))
+    let back = toZ-ofZ w32 (entry (s .values .now) 0) (record { sfits = c .before .before .before .before .before .before .before .before .put-signed-arg2 .given }) in
+    then-with _ _ _ _ _ (rw back at (c .before .before .before .before .before .before .before .put-signed .ensures))
+    (c .before .before .put-behind-commas .ensures ∙ ap (with _) (ap behindCommas (all-behind (s .values .now))))
     ∙ ap (with _) (listed-some (s .values .now) h)
 
 pub put-list-spec : {M : Type 1} → statement M
@@ -57,4 +58,5 @@ put-list-spec =
     part-put-behind-commas-start
     part-put-behind-commas-end
     put-behind-commas-requires
+    same-length
     returns-2)

@@ -1,8 +1,8 @@
 -- `text::put_next` meets its contract. Assumes nothing.
 use mir.Syntax.{w32}
 use mir.ValLaws.{toZ-ofZ}
-use borrow.Author.Needs.{needs}
 use Rattle.script.proofs.TextLaws.{then-with}
+use borrow.Author.Needs.{needs}
 use Rattle.script.proofs.text.put_next.Statement.{statement}
 use Rattle.script.proofs.text.put_next.Tie as tie
 
@@ -12,10 +12,14 @@ put-byte-requires c κs = search needs
 put-signed-requires : tie.Need-put-signed-requires
 put-signed-requires c κs = search needs
 
+same-length : tie.Need-same-length
+same-length c = search needs
+
 returns : tie.Need-returns
 returns c =
-    let back = toZ-ofZ w32 (c .before .before .args .z) (c .before .before .fits .z) in
-    then-with _ _ _ _ _ (c .before .put-byte .ensures) (rw back at (c .put-signed .ensures))
+    let back = toZ-ofZ w32 (c .before .before .before .before .before .before .before .before .before .args .z)
+    (c .before .before .before .before .before .before .before .before .before .fits .z) in
+    then-with _ _ _ _ _ (c .before .before .before .before .before .before .put-byte .ensures) (rw back at (c .before .before .put-signed .ensures))
 
 pub put-next-spec : {M : Type 1} → statement M
-put-next-spec = tie.close (tie.spec put-byte-requires put-signed-requires returns)
+put-next-spec = tie.close (tie.spec put-byte-requires put-signed-requires same-length returns)

@@ -1,15 +1,15 @@
 -- `text::put_signed` meets its contract: a negative number is −1 − k, and its digits are those of k + 1. Assumes nothing.
 use mathlib.Core.Path.{ap, _∙_}
-use borrow.Author.Needs.{needs}
 use native.Mathlib.Omega.{arith}
 use Rattle.script.specs.Text.{with}
 use Rattle.script.proofs.TextLaws.{Below, below, signed-below, signed-from-zero, then-with}
-use Rattle.script.proofs.NumberLaws.{counted-fits}
+use Rattle.line.proofs.NumberLaws.{counted-fits}
+use borrow.Author.Needs.{needs}
 use Rattle.script.proofs.text.put_signed.Statement.{statement}
 use Rattle.script.proofs.text.put_signed.Tie as tie
 
-negative : (c : tie.Then1) → Below (c .before .args .z)
-negative c = below (c .before .args .z) (c .before .fits .z) (c .if1 .taken)
+negative : (c : tie.Then1) → Below (c .before .before .args .z)
+negative c = below (c .before .before .args .z) (c .before .before .fits .z) (c .if1 .taken)
 
 sub-n : tie.Need-sub-n
 sub-n c = negative c .fits
@@ -26,19 +26,29 @@ put-byte-requires c κs = search needs
 put-decimal-requires : tie.Need-put-decimal-requires
 put-decimal-requires c κs = search needs
 
+same-length : tie.Need-same-length
+same-length c = search needs
+
 returns : tie.Need-returns
 returns c =
-    let b = negative (c .before .before) in
-    then-with _ _ _ _ _ (c .before .put-byte .ensures) (c .put-decimal .ensures) ∙ ap (with _) (signed-below _ b)
+    let b = negative (c .before .before .before .before .before .before .before .before) in
+    then-with _ _ _ _ _ (c .before .before .before .before .before .before .put-byte .ensures) (c .before .before .put-decimal .ensures) ∙ ap (with _) (signed-below _ b)
 
 cast-put-decimal : tie.Need-cast-put-decimal
-cast-put-decimal c = counted-fits (c .before .args .z) (c .before .fits .z) (c .if1 .left)
+cast-put-decimal c = counted-fits (c .before .before .before .args .z) (c .before .before .before .fits .z) (c .before .if1 .left)
 
 put-decimal-requires-2 : tie.Need-put-decimal-requires-2
 put-decimal-requires-2 c κs = search needs
 
+same-length-2 : tie.Need-same-length-2
+same-length-2 c = search needs
+
 returns-2 : tie.Need-returns-2
-returns-2 c = c .put-decimal2 .ensures ∙ ap (with _) (signed-from-zero (c .before .before .args .z) (c .before .before .fits .z) (c .before .if1 .left))
+returns-2 c =
+    c .before .before .put-decimal2 .ensures
+    ∙ ap (with _)
+    (signed-from-zero (c .before .before .before .before .before .before .args .z)
+    (c .before .before .before .before .before .before .fits .z) (c .before .before .before .before .if1 .left))
 
 pub put-signed-spec : {M : Type 1} → statement M
 put-signed-spec =
@@ -49,7 +59,9 @@ put-signed-spec =
     add-n
     put-byte-requires
     put-decimal-requires
+    same-length
     returns
     cast-put-decimal
     put-decimal-requires-2
+    same-length-2
     returns-2)

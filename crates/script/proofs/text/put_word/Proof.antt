@@ -1,6 +1,6 @@
 -- `text::put_word` meets its contract. The loop's invariant: the first i bytes of the word were put. The measure is what is left of the word.
 -- Assumes nothing.
-use mathlib.Core.Path.{_≡_, _∙_}
+use mathlib.Core.Path.{_≡_, refl, _∙_}
 use Prim.Native.Nat.{_-_, _≤_, _<_}
 use native.Mathlib.Numerals.{add-one}
 use lib.ListN.{length, take}
@@ -13,16 +13,15 @@ use Rattle.script.proofs.text.put_word.Statement.{statement}
 use Rattle.script.proofs.text.put_word.Tie as tie
 
 abbrev Inv-loop : tie.InvT-loop
-Inv-loop word r₀ i₀ r i = (i ≤ length word) × (shown r ≡ with (shown r₀) (take i word))
+Inv-loop text₀ at word end₀ i₀ text end i = (i ≤ length word) × (length text ≡ length text₀) × (shown text end ≡ with (shown text₀ at) (take i word))
 
 abbrev μ-loop : tie.MeasureT-loop
-μ-loop word r₀ i₀ r i = length word - i
-
-held : (c : tie.Start Inv-loop μ-loop) → length (c .args .text .bytes) ≡ 256
-held c = search needs
+μ-loop text₀ at word end₀ i₀ text end i = length word - i
 
 loop-holds : tie.Need-loop-holds Inv-loop μ-loop
-loop-holds c = (omega arith, with-none _ (shown-length (c .before .args .text .bytes) (c .before .args .text .length) (held (c .before))))
+loop-holds c =
+    let s = c .before .before in
+    (omega arith, refl, with-none _ (shown-length (s .args .text .now) (s .args .at) (s .pre)))
 
 shared-slice-read-put-byte : tie.Need-shared-slice-read-put-byte Inv-loop μ-loop
 shared-slice-read-put-byte c = search needs
@@ -38,17 +37,20 @@ loop-less c = search needs
 
 loop-again : tie.Need-loop-again Inv-loop μ-loop
 loop-again c =
-    let l = c .before .before .before .loop in
-    let s = c .before .before .before .before .before .args in
+    let l = c .before .before .before .before .before .before .loop in
+    let s = c .before .before .before .before .before .before .before .before .before .args in
     let h : l .i < length (s .word .now) = omega arith in
-    (omega arith, rw (add-one, take-suc (s .word .now) (l .i) 0 h) (then-with _ _ _ _ _ (l .inv .1) (c .put-byte .ensures)))
+    (omega arith, search needs, rw (add-one, take-suc (s .word .now) (l .i) 0 h) (then-with _ _ _ _ _ (l .inv .2) (c .before .before .put-byte .ensures)))
+
+same-length : tie.Need-same-length Inv-loop μ-loop
+same-length c = search needs
 
 returns : tie.Need-returns Inv-loop μ-loop
 returns c =
     let l = c .before .loop in
-    let s = c .before .before .before .args in
+    let s = c .before .before .before .before .args in
     let e : l .i ≡ length (s .word .now) = omega arith in
-    l .inv .1 ∙ rw (e, take-length)
+    l .inv .2 ∙ rw (e, take-length)
 
 pub put-word-spec : {M : Type 1} → statement M
 put-word-spec =
@@ -62,4 +64,5 @@ put-word-spec =
     add-i
     loop-less
     loop-again
+    same-length
     returns)

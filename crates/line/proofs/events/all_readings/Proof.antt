@@ -1,0 +1,77 @@
+-- `events::all_readings` meets its contract. The loop's invariant: the first j fields that are looked at are readings. The measure is how many
+-- are left. Assumes nothing.
+use mathlib.Core.Path.{_≡_, refl, sym, ap, _∙_}
+use mathlib.Core.Bool.{true}
+use Prim.Native.Nat.{_+_, _-_, _≤_}
+use borrow.Author.Tests.{not-true, not-false}
+use borrow.Author.Needs.{needs}
+use native.Mathlib.Omega.{arith}
+use Rattle.frame.specs.Marks.{allBelow}
+use Rattle.frame.proofs.Booleans.{all-more, one-fails}
+use Rattle.line.specs.Fields.{field}
+use Rattle.line.specs.Events.{isReading, allReadings}
+use Rattle.line.proofs.events.all_readings.Statement.{statement}
+use Rattle.line.proofs.events.all_readings.Tie as tie
+
+abbrev Inv-loop : tie.InvT-loop
+Inv-loop m line j₀ j = (j ≤ m) × (allBelow j (λ i. isReading (field (i + 2) line)) ≡ true)
+
+abbrev μ-loop : tie.MeasureT-loop
+μ-loop m line j₀ j = m - j
+
+loop-holds : tie.Need-loop-holds Inv-loop μ-loop
+unfolding allBelow
+loop-holds c = (omega arith, refl)
+
+add-field : tie.Need-add-field Inv-loop μ-loop
+add-field c = search needs
+
+field-requires : tie.Need-field-requires Inv-loop μ-loop
+field-requires c κs = search needs
+
+is-reading-requires : tie.Need-is-reading-requires Inv-loop μ-loop
+is-reading-requires c κs = search needs
+
+returns : tie.Need-returns Inv-loop μ-loop
+unfolding allReadings
+returns c =
+    let a = c .before .before .before .before .before .before .args in
+    let l = c .before .before .before .before .loop in
+    let e = sym (c .before .is-reading .ensures ∙ ap isReading (c .before .before .field .ensures)) ∙ not-true _ (c .if1 .taken) in
+    sym (one-fails (λ i. isReading (field (i + 2) (a .line .now))) (a .m) (l .j) (omega arith) e)
+
+add-j : tie.Need-add-j Inv-loop μ-loop
+add-j c = search needs
+
+loop-less : tie.Need-loop-less Inv-loop μ-loop
+loop-less c = search needs
+
+loop-again : tie.Need-loop-again Inv-loop μ-loop
+loop-again c =
+    let a = c .before .before .before .before .before .before .args in
+    let l = c .before .before .before .before .loop in
+    let e = sym (c .before .is-reading .ensures ∙ ap isReading (c .before .before .field .ensures)) ∙ not-false _ (c .if1 .left) in
+    (omega arith, all-more (λ i. isReading (field (i + 2) (a .line .now))) (l .j) (l .inv .1) e)
+
+returns-2 : tie.Need-returns-2 Inv-loop μ-loop
+unfolding allReadings
+returns-2 c =
+    let l = c .before .loop in
+    let e : l .j ≡ c .before .before .before .args .m = omega arith in
+    sym (rw e at (l .inv .1))
+
+pub all-readings-spec : {M : Type 1} → statement M
+all-readings-spec =
+    tie.close
+    (tie.spec
+    Inv-loop
+    μ-loop
+    loop-holds
+    add-field
+    field-requires
+    is-reading-requires
+    returns
+    add-j
+    loop-less
+    loop-again
+    returns-2)

@@ -1,0 +1,29 @@
+-- `events::box_in` meets its contract. Assumes nothing.
+use borrow.Author.Tests.{le-leb, lt-leb}
+use borrow.Author.Needs.{needs}
+use Rattle.line.specs.Events.{boxOf}
+use Rattle.line.proofs.events.box_in.Statement.{statement}
+use Rattle.line.proofs.events.box_in.Tie as tie
+
+count-in-requires : tie.Need-count-in-requires
+count-in-requires c κs = search needs
+
+cast-result : tie.Need-cast-result
+cast-result c = search needs
+
+returns : tie.Need-returns
+unfolding boxOf
+returns c =
+    let e = c .before .count-in .ensures in
+    let h = le-leb _ _ (c .if1 .taken) in
+    rw (rw e at h) e
+
+returns-2 : tie.Need-returns-2
+unfolding boxOf
+returns-2 c =
+    let e = c .before .count-in .ensures in
+    let h = lt-leb _ _ (c .if1 .left) in
+    rw (rw e at h)
+
+pub box-in-spec : {M : Type 1} → statement M
+box-in-spec = tie.close (tie.spec count-in-requires cast-result returns returns-2)

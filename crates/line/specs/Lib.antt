@@ -1,0 +1,5 @@
+-- The definitions, in the order to read: numbers, fields, what a line calls for, and the frames that lines sent.
+pub mod Numbers
+pub mod Fields
+pub mod Events
+pub mod Frames

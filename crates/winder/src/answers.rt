@@ -1,0 +1,16 @@
+// Answers as document 01's numbers.
+ghost use mathlib.Core.Path.{_≡_};
+ghost use Rattle.law.specs.Answer as Law;
+ghost use Rattle.frame.specs.Answers as Frames;
+
+pub(crate) fn law_number(answer: law::Answer) -> u32
+    ensures { λ r. ⌜ r ≡ Law.number answer ⌝ }
+{
+    law::number_of(answer) as u32
+}
+
+pub(crate) fn frame_number(answer: frame::Answer) -> u32
+    ensures { λ r. ⌜ r ≡ Frames.number answer ⌝ }
+{
+    frame::number_of(answer) as u32
+}

@@ -1,0 +1,116 @@
+#include "controller.h"
+
+#include <math.h>
+#include <stddef.h>
+
+#include "line.h"
+#include "plant.h"
+#include "winder.h"
+
+#define NEWTON 100.0                /* units of tension, setpoint, drag and command in one newton */
+#define METRE_PER_SECOND 1000000.0  /* units of lead in one metre per second */
+
+enum { STATES = 4, READINGS = 2, COMMANDS = 1 };
+
+/*
+ * The state. Lead is how much faster the roll's surface runs than the line. Drag is the force at the surface that holds the roll back:
+ * friction, and the inertia that the drive does not know of. It is nowhere measured; its estimate is what takes away lasting errors.
+ */
+enum { TENSION, LEAD, DRAG, SETPOINT };
+
+/* The readings. The setpoint comes in as a reading too: the law has no other way in. */
+enum { TENSION_READ, SETPOINT_READ };
+
+/* The roll's inertia as a mass at its surface: from 178 kg it falls to 112 kg and rises to 163 kg, and one number must do for all. */
+#define DESIGN_MASS 120.0
+
+/* Force for each unit of lead too much, in units of the command: 4,800 newtons for a metre per second, a damping of 0.6. */
+#define DAMPING 0.48
+
+#define LOWEST_COMMAND 0
+#define HIGHEST_COMMAND 60000 /* 600 N */
+
+/* What one period adds: tension by lead, lead by force, and the share of the tension that the roll carries away. */
+#define TENSION_BY_LEAD (WEB_STIFFNESS / SPAN * PERIOD * NEWTON / METRE_PER_SECOND)
+#define LEAD_BY_FORCE (PERIOD / DESIGN_MASS * METRE_PER_SECOND / NEWTON)
+#define CARRIED_AWAY (LINE_SPEED / SPAN * PERIOD)
+
+/* Lead that a steady tension has, for each unit of it: the web on the roll is longer than it came out of the nip. */
+#define LEAD_OF_TENSION (CARRIED_AWAY / TENSION_BY_LEAD)
+
+/* Span and roll over one period with no command. The new lead comes first and makes the new tension. */
+static const double model[STATES][STATES] = {
+    [TENSION] = {1.0 - CARRIED_AWAY - TENSION_BY_LEAD * LEAD_BY_FORCE, TENSION_BY_LEAD, -TENSION_BY_LEAD * LEAD_BY_FORCE, 0.0},
+    [LEAD] = {-LEAD_BY_FORCE, 1.0, -LEAD_BY_FORCE, 0.0},
+    [DRAG] = {0.0, 0.0, 1.0, 0.0},
+    [SETPOINT] = {0.0, 0.0, 0.0, 1.0},
+};
+
+/* What one unit of command adds. */
+static const double effect[STATES] = {TENSION_BY_LEAD * LEAD_BY_FORCE, LEAD_BY_FORCE, 0.0, 0.0};
+
+/* The command is the setpoint plus the drag, less the damping of the lead beyond what the setpoint's own lead is. */
+static const double feedback[STATES] = {0.0, -DAMPING, 1.0, 1.0 + DAMPING * LEAD_OF_TENSION};
+
+/* How far a reading moves the estimate, by state and reading. The estimate's error then shrinks by about 0.7, 0.7 and 0.9 a period. */
+static const double correction[STATES][READINGS] = {
+    [TENSION] = {0.55, 0.0},
+    [LEAD] = {0.22, 0.0},
+    [DRAG] = {-0.08, 0.0},
+    [SETPOINT] = {0.0, 1.0},
+};
+
+/* A gain in units of 1/65536. */
+static int32_t scaled(double gain)
+{
+    return (int32_t)lround(gain * 65536.0);
+}
+
+/* Row i of A carries the effect of the command: the model's row, and what the feedback of each state brings about. */
+static void fill_row(struct Controller *controller, size_t i)
+{
+    for (size_t j = 0; j < STATES; j++) {
+        controller->a[i * 6 + j] = scaled(model[i][j] + effect[i] * feedback[j]);
+    }
+}
+
+struct Controller controller_at_start(void)
+{
+    struct Controller controller = {.low = {LOWEST_COMMAND}, .high = {HIGHEST_COMMAND}};
+    for (size_t i = 0; i < STATES; i++) {
+        fill_row(&controller, i);
+        controller.l[i * 4 + TENSION_READ] = scaled(correction[i][TENSION_READ]);
+        controller.l[i * 4 + SETPOINT_READ] = scaled(correction[i][SETPOINT_READ]);
+        controller.k[i] = scaled(feedback[i]);
+    }
+    controller.c[TENSION_READ * 6 + TENSION] = scaled(1.0);
+    controller.c[SETPOINT_READ * 6 + SETPOINT] = scaled(1.0);
+    return controller;
+}
+
+static uint32_t update(struct Controller *law, const uint8_t present[4], const int32_t values[4])
+{
+    return winder_update(STATES, READINGS, COMMANDS, law->a, law->l, law->c, law->k, law->low, law->high, present, values, law->state);
+}
+
+static uint32_t command_of(const struct Controller *law, int32_t commands[4])
+{
+    return winder_command(STATES, READINGS, COMMANDS, law->a, law->l, law->c, law->k, law->low, law->high, law->state, commands);
+}
+
+uint32_t controller_step(struct Controller *controller, bool is_read, double tension, double setpoint, double *command)
+{
+    uint8_t present[4] = {[TENSION_READ] = is_read, [SETPOINT_READ] = true};
+    int32_t values[4] = {[TENSION_READ] = (int32_t)lround(tension * NEWTON), [SETPOINT_READ] = (int32_t)lround(setpoint * NEWTON)};
+    int32_t commands[4];
+
+    uint32_t refusal = update(controller, present, values);
+    if (refusal != 0) {
+        return refusal;
+    }
+    refusal = command_of(controller, commands);
+    if (refusal == 0) {
+        *command = commands[0] / NEWTON;
+    }
+    return refusal;
+}

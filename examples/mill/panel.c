@@ -1,0 +1,122 @@
+#include "panel.h"
+
+#include <math.h>
+#include <stdio.h>
+
+#define SMALLEST_STEP 0.5 /* pixels that are worth a point of their own */
+
+static double at_x(const struct Panel *panel, double x)
+{
+    return panel->left + (x - panel->x_low) / (panel->x_high - panel->x_low) * panel->width;
+}
+
+static double at_y(const struct Panel *panel, double y)
+{
+    return panel->top + (panel->y_high - y) / (panel->y_high - panel->y_low) * panel->height;
+}
+
+static void write_rectangle(const struct Panel *panel, const char *class)
+{
+    printf("<rect class=\"%s\" x=\"%.1f\" y=\"%.1f\" width=\"%.1f\" height=\"%.1f\"/>\n", class, panel->left, panel->top, panel->width,
+           panel->height);
+}
+
+void panel_frame(const struct Panel *panel, const char *title, const char *x_name, const char *y_name)
+{
+    double bottom = panel->top + panel->height;
+    printf("<clipPath id=\"panel%d\">", panel->number);
+    write_rectangle(panel, "clip");
+    printf("</clipPath>\n");
+    write_rectangle(panel, "frame");
+    printf("<text class=\"heading\" x=\"%.1f\" y=\"%.1f\">%s</text>\n", panel->left, panel->top - 9.0, title);
+    printf("<text class=\"end\" x=\"%.1f\" y=\"%.1f\">%s</text>\n", panel->left + panel->width, bottom + 33.0, x_name);
+    printf("<text class=\"end\" x=\"%.1f\" y=\"%.1f\">%s</text>\n", panel->left - 8.0, panel->top - 9.0, y_name);
+}
+
+void panel_x_ticks(const struct Panel *panel, double step, int decimals)
+{
+    double bottom = panel->top + panel->height;
+    int count = (int)((panel->x_high - panel->x_low) / step + 0.001);
+    for (int i = 0; i <= count; i++) {
+        double x = at_x(panel, panel->x_low + i * step);
+        printf("<path class=\"tick\" d=\"M%.1f %.1fv5\"/>", x, bottom);
+        printf("<text class=\"middle\" x=\"%.1f\" y=\"%.1f\">%.*f</text>\n", x, bottom + 18.0, decimals, i * step);
+    }
+}
+
+void panel_y_ticks(const struct Panel *panel, double step)
+{
+    int count = (int)((panel->y_high - panel->y_low) / step + 0.001);
+    for (int i = 0; i <= count; i++) {
+        double value = panel->y_low + i * step;
+        double y = at_y(panel, value);
+        printf("<path class=\"grid\" d=\"M%.1f %.1fh%.1f\"/>", panel->left, y, panel->width);
+        printf("<text class=\"end\" x=\"%.1f\" y=\"%.1f\">%.0f</text>\n", panel->left - 8.0, y + 4.0, value);
+    }
+}
+
+void panel_mark(const struct Panel *panel, double x, const char *label)
+{
+    printf("<path class=\"mark\" d=\"M%.1f %.1fv%.1f\"/>", at_x(panel, x), panel->top, panel->height);
+    printf("<text class=\"label\" x=\"%.1f\" y=\"%.1f\">%s</text>\n", at_x(panel, x) + 4.0, panel->top + 14.0, label);
+}
+
+void panel_shade(const struct Panel *panel, double from, double to)
+{
+    struct Panel stretch = *panel;
+    stretch.left = at_x(panel, from);
+    stretch.width = at_x(panel, to) - stretch.left;
+    write_rectangle(&stretch, "shade");
+}
+
+/* The rows of one pixel: those with the lowest and the highest y. */
+struct Pixel {
+    const struct Row *low, *high;
+};
+
+static void write_point(const struct Panel *panel, const struct Row *row, Column x, Column y)
+{
+    printf("%.1f %.1f\n", at_x(panel, x(row)), at_y(panel, y(row)));
+}
+
+/* Rows lie in one array, so the one at the lower address came first. */
+static void write_pixel(const struct Panel *panel, const struct Pixel *pixel, Column x, Column y)
+{
+    const struct Row *first = pixel->low < pixel->high ? pixel->low : pixel->high;
+    const struct Row *last = pixel->low < pixel->high ? pixel->high : pixel->low;
+    write_point(panel, first, x, y);
+    if (fabs(at_y(panel, y(first)) - at_y(panel, y(last))) >= SMALLEST_STEP) {
+        write_point(panel, last, x, y);
+    }
+}
+
+/* Takes one more row. A row of the next pixel closes the one before it. */
+static void take_row(const struct Panel *panel, struct Pixel *pixel, const struct Row *row, Column x, Column y)
+{
+    if (pixel->low != NULL && floor(at_x(panel, x(row))) > floor(at_x(panel, x(pixel->low)))) {
+        write_pixel(panel, pixel, x, y);
+        *pixel = (struct Pixel){NULL, NULL};
+    }
+    if (pixel->low == NULL || y(row) < y(pixel->low)) {
+        pixel->low = row;
+    }
+    if (pixel->high == NULL || y(row) > y(pixel->high)) {
+        pixel->high = row;
+    }
+}
+
+void panel_curve(const struct Panel *panel, const struct Record *record, Column x, Column y, const char *class)
+{
+    struct Pixel pixel = {NULL, NULL};
+    printf("<path class=\"%s\" clip-path=\"url(#panel%d)\" d=\"M", class, panel->number);
+    for (size_t i = 0; i < record->count; i++) {
+        const struct Row *row = &record->rows[i];
+        if (panel->x_low <= x(row) && x(row) <= panel->x_high) {
+            take_row(panel, &pixel, row, x, y);
+        }
+    }
+    if (pixel.low != NULL) {
+        write_pixel(panel, &pixel, x, y);
+    }
+    printf("\"/>\n");
+}

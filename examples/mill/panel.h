@@ -1,0 +1,32 @@
+/* One panel of a picture: a frame with ticks, and curves in it. Everything is written to standard output as SVG. */
+#ifndef PANEL_H
+#define PANEL_H
+
+#include "record.h"
+
+/* Place and size in the picture, and the values at the frame's edges. */
+struct Panel {
+    int number; /* its own in the picture */
+    double left, top, width, height;
+    double x_low, x_high, y_low, y_high;
+};
+
+typedef double (*Column)(const struct Row *row);
+
+/* The frame with a title above it, and the names of the axes. */
+void panel_frame(const struct Panel *panel, const char *title, const char *x_name, const char *y_name);
+
+/* Ticks with numbers. The x axis counts from its left edge. */
+void panel_x_ticks(const struct Panel *panel, double step, int decimals);
+void panel_y_ticks(const struct Panel *panel, double step);
+
+/* A line at x with a label beside its upper end. */
+void panel_mark(const struct Panel *panel, double x, const char *label);
+
+/* A stretch of the x axis, shaded. */
+void panel_shade(const struct Panel *panel, double from, double to);
+
+/* A curve through the rows. Where many rows share a pixel, their lowest and highest are kept, so that no peak is lost. */
+void panel_curve(const struct Panel *panel, const struct Record *record, Column x, Column y, const char *class);
+
+#endif

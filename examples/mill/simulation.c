@@ -1,0 +1,77 @@
+#include "simulation.h"
+
+#include "controller.h"
+#include "drive.h"
+#include "line.h"
+#include "plant.h"
+
+/* The plant moves on in steps much shorter than a period. */
+#define STEPS 20
+
+struct Winder {
+    struct Plant plant;
+    struct Drive drive;
+    struct Line line;
+    struct Controller controller;
+    double command; /* in force now */
+};
+
+static struct Row read_winder(const struct Winder *winder, double now)
+{
+    double radius = winder->plant.radius;
+    double length = wound_length(radius);
+    return (struct Row){
+        .time = now,
+        .length = length,
+        .radius = radius,
+        .speed = winder->line.speed,
+        .setpoint = line_setpoint(radius),
+        .tension = plant_tension(&winder->plant),
+        .splice = line_in_splice(length),
+        .present = line_tension_is_read(length),
+    };
+}
+
+static void move_on(struct Winder *winder, double now)
+{
+    double time = PERIOD / STEPS;
+    for (int step = 0; step < STEPS; step++) {
+        struct Plant *plant = &winder->plant;
+        line_step(&winder->line, now + step * time, plant->radius, time);
+        double torque = drive_step(&winder->drive, winder->command, plant->radius, winder->line.acceleration, time);
+        plant_step(plant, winder->line.speed, line_slack(wound_length(plant->radius)), torque, time);
+    }
+}
+
+/* While the law works on this period's readings, the drive still has the command of the period before. */
+static uint32_t one_period(struct Winder *winder, struct Row *row, double now)
+{
+    *row = read_winder(winder, now);
+    uint32_t refusal = controller_step(&winder->controller, row->present, row->tension, row->setpoint, &row->command);
+    if (refusal != 0) {
+        return refusal;
+    }
+    move_on(winder, now);
+    winder->command = row->command;
+    return 0;
+}
+
+static bool has_ended(const struct Winder *winder, const struct Record *record)
+{
+    bool is_wound = winder->plant.radius > (CORE_RADIUS + FULL_RADIUS) / 2.0;
+    return (is_wound && winder->line.speed == 0.0) || record->count == MOST_ROWS;
+}
+
+uint32_t simulate(struct Record *record)
+{
+    struct Winder winder = {.plant = plant_at_start(), .controller = controller_at_start()};
+    record->count = 0;
+    while (!has_ended(&winder, record)) {
+        uint32_t refusal = one_period(&winder, &record->rows[record->count], (double)record->count * PERIOD);
+        if (refusal != 0) {
+            return refusal;
+        }
+        record->count++;
+    }
+    return 0;
+}

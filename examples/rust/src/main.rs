@@ -1,0 +1,72 @@
+//! Runs the bench's law for a few periods, and once with a coefficient that it refuses.
+
+mod law;
+
+use law::{Law, State};
+
+/// The law of document 01's bench: one state, one reading, one command. The state moves half way
+/// to each reading.
+fn bench_law() -> Law {
+    let mut law = Law {
+        n: 1,
+        m: 1,
+        p: 1,
+        a: [0; 36],
+        l: [0; 24],
+        c: [0; 24],
+        k: [0; 24],
+        low: [i32::MIN; 4],
+        high: [i32::MAX; 4],
+    };
+    law.a[0] = 65_536;
+    law.l[0] = 32_768;
+    law.c[0] = 65_536;
+    law.k[0] = 65_536;
+    law
+}
+
+/// One period: the state after it and its command.
+fn period(law: &Law, state: State, reading: Option<i32>) -> Result<(State, i32), u32> {
+    let next = law.update(state, [reading, None, None, None])?;
+    let commands = law.command(next)?;
+    Ok((next, commands[0]))
+}
+
+fn shown(reading: Option<i32>) -> String {
+    reading.map_or_else(|| "-".to_string(), |value| value.to_string())
+}
+
+/// What one period prints, and the state after it; a refused one leaves the state.
+fn print_period(number: usize, law: &Law, state: State, reading: Option<i32>) -> State {
+    let reading_shown = shown(reading);
+    match period(law, state, reading) {
+        Ok((next, command)) => {
+            println!("{number:>6} {reading_shown:>8} {:>6} {command:>8}", next[0]);
+            next
+        }
+        Err(refusal) => {
+            println!(
+                "{number:>6} {reading_shown:>8} {:>6} refused by {refusal}",
+                state[0]
+            );
+            state
+        }
+    }
+}
+
+fn main() {
+    let law = bench_law();
+    let mut state = [0; 6];
+    println!("period  reading  state  command");
+    for (i, reading) in [Some(101), Some(101), None, Some(-101)]
+        .into_iter()
+        .enumerate()
+    {
+        state = print_period(i + 1, &law, state, reading);
+    }
+
+    let mut out_of_range = law.clone();
+    out_of_range.l[0] = 16_777_217;
+    state = print_period(5, &out_of_range, state, Some(100));
+    print_period(6, &law, state, Some(100));
+}

@@ -1,0 +1,62 @@
+//! The second implementation, under the signatures of `winder`.
+
+use second::frame;
+use second::law::{self, Settings};
+use second::refusal::Refusal;
+
+use crate::areas::{row, Fields, Sizes};
+
+/// The answer's number; what is given goes to its area where nothing is
+/// refused.
+fn answer<T>(result: Result<T, Refusal>, area: &mut T) -> u32 {
+    match result {
+        Ok(given) => {
+            *area = given;
+            0
+        }
+        Err(refusal) => refusal.number().into(),
+    }
+}
+
+fn sized(sizes: Sizes, settings: &Settings) -> Settings {
+    let [n, m, p] = sizes.narrow();
+    Settings {
+        n,
+        m,
+        p,
+        ..*settings
+    }
+}
+
+pub fn update(
+    sizes: Sizes,
+    settings: &Settings,
+    present: &[u8; 4],
+    values: &[i32; 4],
+    state: &mut [i32; 6],
+) -> u32 {
+    let readings = row(present, values);
+    let next = law::update(&sized(sizes, settings), state, &readings);
+    answer(next, state)
+}
+
+pub fn command(
+    sizes: Sizes,
+    settings: &Settings,
+    state: &[i32; 6],
+    commands: &mut [i32; 4],
+) -> u32 {
+    let values = law::command(&sized(sizes, settings), state);
+    answer(values, commands)
+}
+
+pub fn read(sizes: Sizes, bytes: &[u8], fields: &mut Fields) -> u32 {
+    let [n, m, _] = sizes.narrow();
+    let frame = frame::read(n, m, bytes);
+    answer(frame.map(|frame| Fields::of_frame(&frame)), fields)
+}
+
+pub fn write(sizes: Sizes, fields: &Fields, area: &mut [u8], length: &mut usize) -> u32 {
+    let [n, m, _] = sizes.narrow();
+    answer(frame::write(n, m, &fields.to_frame(), area), length)
+}

@@ -1,0 +1,86 @@
+//! The comparison of law calls: update and command.
+
+use std::fmt;
+
+use crate::areas::PATTERN_32;
+use crate::law_call::{self, LawCall};
+use crate::prng::Prng;
+use crate::reach::Reach;
+use crate::report::{alike, write_answers, Answers};
+use crate::{counterpart, winder};
+
+#[derive(Debug, Default)]
+pub struct Counts {
+    updates: Answers,
+    commands: Answers,
+    reach: Reach,
+}
+
+/// The law calls of one number. The error says what differs.
+pub fn compare(seed: u64, number: usize, counts: &mut Counts) -> Result<(), String> {
+    let call = law_call::make(&mut Prng::of_script(seed, number));
+    let updated = update_by_both(&call)?;
+    let commanded = command_by_both(&call)?;
+    counts.updates[updated as usize] += 1;
+    counts.commands[commanded as usize] += 1;
+    if updated == 0 {
+        counts.reach.count_update(&call);
+    }
+    if commanded == 0 {
+        counts.reach.count_command(&call);
+    }
+    Ok(())
+}
+
+fn update_by_both(call: &LawCall) -> Result<u32, String> {
+    let LawCall {
+        sizes,
+        settings,
+        present,
+        values,
+        state,
+    } = call;
+    let given = |update: fn(_, &_, &_, &_, &mut _) -> u32| {
+        let mut state = *state;
+        let answer = update(*sizes, settings, present, values, &mut state);
+        (answer, state)
+    };
+    let (first, second) = (given(winder::update), given(counterpart::update));
+    alike(first, second, &("update", call)).map(|(answer, _)| answer)
+}
+
+fn command_by_both(call: &LawCall) -> Result<u32, String> {
+    let given = |command: fn(_, &_, &_, &mut _) -> u32| {
+        let mut commands = [PATTERN_32 as i32; 4];
+        let answer = command(call.sizes, &call.settings, &call.state, &mut commands);
+        (answer, commands)
+    };
+    let (first, second) = (given(winder::command), given(counterpart::command));
+    alike(first, second, &("command", call)).map(|(answer, _)| answer)
+}
+
+impl fmt::Display for Counts {
+    fn fmt(&self, out: &mut fmt::Formatter<'_>) -> fmt::Result {
+        write_answers(out, "updates", &self.updates)?;
+        write_answers(out, "commands", &self.commands)?;
+        write!(out, "{}", self.reach)
+    }
+}
+
+#[cfg(test)]
+mod tests {
+    use super::*;
+
+    #[test]
+    fn every_answer_is_met_and_every_end_reached() {
+        let mut counts = Counts::default();
+        for number in 1..=2_000 {
+            compare(1, number, &mut counts).unwrap();
+        }
+        for answers in [counts.updates, counts.commands] {
+            let met = answers.map(|count| count > 0);
+            assert_eq!(met[..5], [true, false, true, true, true]);
+        }
+        assert!(counts.reach.is_everywhere(), "{counts}");
+    }
+}

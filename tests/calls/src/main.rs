@@ -1,0 +1,82 @@
+//! Compares frames and law calls of the first implementation, through its
+//! static library `winder`, with the second implementation of document 01.
+
+#![deny(unsafe_code)]
+
+mod areas;
+mod counterpart;
+mod damage;
+mod draft;
+mod faults;
+mod frames;
+mod law;
+mod law_call;
+// Its shuffle has no use here.
+#[allow(dead_code)]
+#[path = "../../compare/src/prng.rs"]
+mod prng;
+mod reach;
+mod report;
+mod values;
+#[allow(unsafe_code)]
+mod winder;
+
+use std::fmt::Display;
+use std::process::ExitCode;
+use std::{env, str::FromStr};
+
+const USAGE: &str = "usage:
+  calls frames COUNT SEED
+  calls law COUNT SEED
+  calls faults SEED
+  calls search frames|law SEED
+
+The last is for this program's own use, with a fault planted.";
+
+fn main() -> ExitCode {
+    let words: Vec<String> = env::args().skip(1).collect();
+    let words: Vec<&str> = words.iter().map(String::as_str).collect();
+    match run(&words) {
+        Ok(()) => ExitCode::SUCCESS,
+        Err(what) => {
+            eprintln!("{what}");
+            ExitCode::FAILURE
+        }
+    }
+}
+
+fn run(words: &[&str]) -> Result<(), String> {
+    match words {
+        ["frames", count, seed] => compare("frames", frames::compare, count, seed),
+        ["law", count, seed] => compare("law calls", law::compare, count, seed),
+        ["faults", seed] => faults::table(number(seed)?),
+        ["search", calls, seed] => {
+            second::fault::plant_from_environment()?;
+            faults::search(calls, number(seed)?)
+        }
+        _ => Err(USAGE.to_string()),
+    }
+}
+
+/// Runs the comparison for each number up to the count and prints what
+/// occurred. The error says what differs first.
+fn compare<C: Default + Display>(
+    what: &str,
+    compare_one: fn(u64, usize, &mut C) -> Result<(), String>,
+    count: &str,
+    seed: &str,
+) -> Result<(), String> {
+    let (count, seed) = (number(count)?, number(seed)?);
+    let mut counts = C::default();
+    for number in 1..=count {
+        compare_one(seed, number, &mut counts)
+            .map_err(|difference| format!("seed {seed}, number {number}: {difference}"))?;
+    }
+    print!("{count} {what} of seed {seed}: no difference\n{counts}");
+    Ok(())
+}
+
+fn number<T: FromStr>(word: &str) -> Result<T, String> {
+    word.parse()
+        .map_err(|_| format!("{word}: no number\n{USAGE}"))
+}

@@ -1,0 +1,100 @@
+//! What taken law calls reach, by their sums. This only counts: nothing is
+//! compared with it.
+
+use std::fmt;
+
+use crate::areas::Sizes;
+use crate::law_call::LawCall;
+use crate::report::write_row;
+
+const UNIT: i64 = 65_536;
+
+#[derive(Debug, Default)]
+pub struct Reach {
+    divisions: usize,
+    /// Below zero, with a remainder.
+    rounded_down: usize,
+    /// Within 1 of a multiple of 65536: sums below zero, and above.
+    near_below: usize,
+    near_above: usize,
+    errors_clamped: usize,
+    states_clamped: usize,
+    limited_below: usize,
+    limited_above: usize,
+}
+
+impl Reach {
+    /// Counts what an update divides and clamps.
+    pub fn count_update(&mut self, call: &LawCall) {
+        let Sizes { n, m, .. } = call.sizes;
+        let e = [0, 1, 2, 3].map(|j| self.error(call, j));
+        for i in 0..n {
+            let of_x = dot(&call.settings.a[i], &call.state, n);
+            let of_e = dot(&call.settings.l[i], &e, m);
+            let quotient = self.divide(of_x + of_e);
+            self.states_clamped += usize::from(clamp(quotient) != quotient);
+        }
+    }
+
+    fn error(&mut self, call: &LawCall, j: usize) -> i32 {
+        if j >= call.sizes.m || call.present[j] == 0 {
+            return 0;
+        }
+        let expected = self.divide(dot(&call.settings.c[j], &call.state, call.sizes.n));
+        let error = i64::from(call.values[j]) - expected;
+        self.errors_clamped += usize::from(clamp(error) != error);
+        clamp(error) as i32
+    }
+
+    /// Counts what a command divides and limits.
+    pub fn count_command(&mut self, call: &LawCall) {
+        let settings = &call.settings;
+        for j in 0..call.sizes.p {
+            let wanted = self.divide(dot(&settings.k[j], &call.state, call.sizes.n));
+            self.limited_below += usize::from(wanted < settings.lower[j].into());
+            self.limited_above += usize::from(wanted > settings.upper[j].into());
+        }
+    }
+
+    #[cfg(test)]
+    pub fn is_everywhere(&self) -> bool {
+        let clamped = self.errors_clamped.min(self.states_clamped);
+        let limited = self.limited_below.min(self.limited_above);
+        let near = self.near_below.min(self.near_above);
+        [self.rounded_down, near, clamped, limited]
+            .iter()
+            .all(|&count| count > 0)
+    }
+
+    fn divide(&mut self, sum: i64) -> i64 {
+        let remainder = sum.rem_euclid(UNIT);
+        let near = [0, 1, UNIT - 1].contains(&remainder);
+        self.divisions += 1;
+        self.rounded_down += usize::from(sum < 0 && remainder != 0);
+        self.near_below += usize::from(near && sum < 0);
+        self.near_above += usize::from(near && sum > 0);
+        sum.div_euclid(UNIT)
+    }
+}
+
+fn dot(coefficients: &[i32], values: &[i32], count: usize) -> i64 {
+    let pairs = coefficients.iter().zip(values).take(count);
+    pairs.map(|(&c, &x)| i64::from(c) * i64::from(x)).sum()
+}
+
+fn clamp(value: i64) -> i64 {
+    value.clamp(i32::MIN.into(), i32::MAX.into())
+}
+
+impl fmt::Display for Reach {
+    fn fmt(&self, out: &mut fmt::Formatter<'_>) -> fmt::Result {
+        write_row(out, "divisions", self.divisions)?;
+        write_row(out, "  below zero, with a remainder", self.rounded_down)?;
+        write_row(out, "  within 1 of a multiple, below zero", self.near_below)?;
+        write_row(out, "  within 1 of a multiple, above zero", self.near_above)?;
+        write_row(out, "e(j) clamped", self.errors_clamped)?;
+        write_row(out, "x'(i) clamped", self.states_clamped)?;
+        write_row(out, "commands below their limits", self.limited_below)?;
+        write_row(out, "commands above their limits", self.limited_above)
+    }
+}

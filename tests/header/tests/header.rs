@@ -1,0 +1,172 @@
+//! include/winder.h declares what crate winder exports, and a header that is
+//! changed in any one way is found.
+
+use header::{declared, differences, exported, Function};
+use std::fs;
+use std::path::{Path, PathBuf};
+
+fn path(of: &str) -> PathBuf {
+    Path::new(env!("CARGO_MANIFEST_DIR")).join("../..").join(of)
+}
+
+fn header() -> String {
+    fs::read_to_string(path("include/winder.h")).expect("the header")
+}
+
+/// The functions that the crate's files export.
+fn exports() -> Vec<Function> {
+    let mut functions = Vec::new();
+    for entry in fs::read_dir(path("crates/winder/src")).expect("the crate's folder") {
+        let path = entry.expect("a file of the crate").path();
+        let source = fs::read_to_string(&path).expect("a file of the crate");
+        functions.extend(exported(&source).unwrap_or_else(|error| panic!("{path:?}: {error}")));
+    }
+    functions
+}
+
+/// The prototype of a function in the header, to its semicolon.
+fn prototype(name: &str) -> String {
+    let header = header();
+    let start = header.find(&format!("uint32_t {name}("));
+    let from = &header[start.expect("a prototype")..];
+    let end = from.find(';').expect("the prototype's end");
+    from[..=end].to_string()
+}
+
+/// What is found in the header with another text for a function's prototype.
+fn found_with(name: &str, new: &str) -> Vec<String> {
+    let header = header().replace(&prototype(name), new);
+    differences(&exports(), &declared(&header).expect("prototypes"))
+}
+
+/// Changes a function's prototype, and expects that to be all that is found.
+fn is_found(name: &str, old: &str, new: &str) {
+    let prototype = prototype(name);
+    assert_eq!(prototype.matches(old).count(), 1, "'{old}' in {name}");
+    let found = found_with(name, &prototype.replace(old, new));
+    assert_eq!(found.len(), 1, "{found:#?}");
+    assert!(found[0].starts_with(name), "{found:#?}");
+}
+
+#[test]
+fn the_header_declares_what_the_crate_exports() {
+    let exports = exports();
+    assert_eq!(exports.len(), 4);
+    let declared = declared(&header()).expect("prototypes");
+    assert_eq!(differences(&exports, &declared), Vec::<String>::new());
+}
+
+#[test]
+fn exchanged_parameters_are_found() {
+    let (limits, exchanged) = (
+        "low[4],\n    const int32_t high[4]",
+        "high[4],\n    const int32_t low[4]",
+    );
+    is_found("winder_update", limits, exchanged);
+    let (sizes, exchanged) = ("size_t n,\n    size_t m", "size_t m,\n    size_t n");
+    is_found("winder_read_frame", sizes, exchanged);
+    let (bytes, exchanged) = (
+        "const uint8_t *bytes,\n    size_t bytes_length",
+        "size_t bytes_length,\n    const uint8_t *bytes",
+    );
+    is_found("winder_read_frame", bytes, exchanged);
+}
+
+#[test]
+fn another_name_is_found() {
+    is_found("winder_command", "commands[4]", "command[4]");
+    let renamed = prototype("winder_command").replace("winder_command", "winder_commands");
+    let found = found_with("winder_command", &renamed);
+    let expected = [
+        "winder_command is not declared",
+        "winder_commands is not exported",
+    ];
+    assert_eq!(found, expected);
+}
+
+#[test]
+fn another_size_is_found() {
+    is_found("winder_update", "a[36]", "a[24]");
+    is_found("winder_command", "state[6]", "state[7]");
+    is_found("winder_read_frame", "ends[2]", "*ends");
+    is_found("winder_write_frame", "*length", "length[1]");
+}
+
+#[test]
+fn a_missing_const_is_found() {
+    is_found("winder_update", "const int32_t values", "int32_t values");
+    is_found(
+        "winder_read_frame",
+        "const uint8_t *bytes",
+        "uint8_t *bytes",
+    );
+}
+
+#[test]
+fn an_added_const_is_found() {
+    is_found("winder_read_frame", "int32_t state", "const int32_t state");
+    is_found("winder_write_frame", "uint8_t *area", "const uint8_t *area");
+}
+
+#[test]
+fn another_type_is_found() {
+    is_found("winder_read_frame", "uint32_t counters", "int32_t counters");
+    is_found("winder_read_frame", "size_t n", "uint32_t n");
+    is_found("winder_update", "uint32_t winder", "int32_t winder");
+}
+
+#[test]
+fn a_missing_parameter_is_found() {
+    is_found("winder_command", "    size_t p,\n", "");
+}
+
+#[test]
+fn a_missing_function_is_found() {
+    let missing = ["winder_command is not declared"];
+    assert_eq!(found_with("winder_command", ""), missing);
+    let comment = format!("/* {} */", prototype("winder_command"));
+    assert_eq!(found_with("winder_command", &comment), missing);
+}
+
+#[test]
+fn an_additional_function_is_found() {
+    let prototype = prototype("winder_command");
+    let more = format!("{prototype}\nuint32_t winder_reset(size_t n);");
+    let additional = ["winder_reset is not exported"];
+    assert_eq!(found_with("winder_command", &more), additional);
+    let twice = format!("{prototype}\n{prototype}");
+    let doubled = ["winder_command is declared 2 times"];
+    assert_eq!(found_with("winder_command", &twice), doubled);
+}
+
+#[test]
+fn what_is_no_prototype_is_refused() {
+    for text in [
+        "#define int32_t int64_t\n",
+        "#if 0\n",
+        "typedef int int32_t;",
+        "static uint32_t f(size_t n) { return 0; }",
+        "uint32_t f(size_t n)",
+        "uint32_t f(void);",
+        "uint32_t f(const size_t n);",
+        "uint32_t f(int32_t a[]);",
+        "} uint32_t f(size_t n);",
+    ] {
+        assert!(declared(text).is_err(), "{text}");
+    }
+}
+
+#[test]
+fn what_is_no_export_is_refused() {
+    for text in [
+        "pub extern \"C\" fn f(n: usize) -> u32 { 0 }",
+        "#[no_mangle] fn f(n: usize) -> u32 { 0 }",
+        "#[no_mangle] pub extern \"C\" fn f(n: usize) { }",
+        "#[no_mangle] pub extern \"C\" fn f(n: bool) -> u32 { 0 }",
+        "#[no_mangle] pub extern \"C\" fn f(s: Settings) -> u32 { 0 }",
+    ] {
+        assert!(exported(text).is_err(), "{text}");
+    }
+    let comment = "// #[no_mangle]\nfn f(n: usize) -> u32 { 0 }";
+    assert_eq!(exported(comment), Ok(Vec::new()));
+}

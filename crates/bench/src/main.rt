@@ -1,55 +1,44 @@
-// The bench of document 01: three boxes with one state, one reading and one command, played by the lines of standard input.
-use libc::STDOUT_FILENO;
-use replica::Settings;
+// The bench of document 01: three boxes with one state, one reading and one command, played by the lines of standard input. What it prints of them
+// is `benchOutput` of script/specs/Script.antt, by the contract of `script::output::bench`. The lines so far are played again whenever more come, and
+// what is new is printed, so that lines typed at a terminal are answered at once.
+use console::CHUNK;
+use script::output::OUTPUT;
 
-// N = 3; n = m = p = 1; A, C and K hold 65536, L 32768; widest limits; start 0.
-fn bench_settings() -> Settings {
-    let mut a = [0i32; 36];
-    let mut l = [0i32; 24];
-    let mut c = [0i32; 24];
-    let mut k = [0i32; 24];
-    let mut low = [0i32; 4];
-    let mut high = [0i32; 4];
-    a[0] = 65536;
-    l[0] = 32768;
-    c[0] = 65536;
-    k[0] = 65536;
-    low[0] = -2147483648;
-    high[0] = 2147483647;
-    let law = law::Settings {
-        n: 1,
-        m: 1,
-        p: 1,
-        a,
-        l,
-        c,
-        k,
-        low,
-        high,
-        start: [0i32; 6],
-    };
-    Settings {
-        boxes: 3,
-        own: 1,
-        law,
+// At most 500 lines, each cut at 2,048 bytes, and their line feeds.
+const LINES: usize = 500;
+
+const TEXT: usize = 1024500;
+
+// Plays a text, prints what is new, and tells how much was printed then.
+fn play(text: &[u8], output: &mut [u8; OUTPUT], printed: usize) -> usize {
+    let n = script::output::bench(text, output);
+    console::write_more(output, printed, n);
+    n
+}
+
+// The header line is printed before anything is read.
+fn run(chunk: &mut [u8; CHUNK], text: &mut [u8; TEXT], output: &mut [u8; OUTPUT]) {
+    let mut gathered = console::nothing();
+    let mut printed = play(console::first(text, 0), output, 0);
+    let mut played = 0;
+    let mut turns = u64::MAX;
+    while 0 < turns {
+        turns -= 1;
+        gathered = console::read_more(gathered, LINES, chunk, text);
+        let size = console::ready(gathered);
+        if played < size {
+            printed = play(console::first(text, size), output, printed);
+            played = size;
+        }
+        if gathered.ended {
+            return;
+        }
     }
 }
 
 fn main() {
-    let mut chunk = [0u8; 4096];
-    let mut line = [0u8; 2048];
-    let mut table = [0u8; 34569];
-    let mut lengths = [0usize; 501];
-    let replicas = script::play::fresh(bench_settings());
-    io::write_all(STDOUT_FILENO, b"no who answer k v vb kb x frame command\n");
-    script::run::run(
-        replicas,
-        3,
-        1,
-        script::run::start(),
-        &mut chunk,
-        &mut line,
-        &mut table,
-        &mut lengths,
-    );
+    let mut chunk = [0u8; CHUNK];
+    let mut text = [0u8; TEXT];
+    let mut output = [0u8; OUTPUT];
+    run(&mut chunk, &mut text, &mut output);
 }

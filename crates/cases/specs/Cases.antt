@@ -5,17 +5,22 @@ use mathlib.Core.Bool.{Bool, true, false}
 use mathlib.Core.List.{List, [], _∷_, map}
 use lib.ListN.{replicate}
 use lib.IntN.{ℤ, pos}
-use Rattle.readings.specs.Places.{filled}
+use Rattle.lists.specs.Choice.{pick}
+use Rattle.lists.specs.Below.{allBelow}
+use Rattle.lists.specs.Places.{filled}
+use Rattle.lists.specs.Refusals.{firstOf}
 use Rattle.law.specs.Fixed.{minus, divided, sum, limited, clamp}
-use Rattle.law.specs.Settings.{sizesInRange, every, inRange, tableInRange, coefficientsInRange, limitsInOrder, refusal}
+use Rattle.law.specs.Settings.{sizesInRange, inRange, tableInRange, coefficientsInRange, limitsInOrder, refusals, refusal}
 use Rattle.law.specs.Law.{e, next, updated}
 use Rattle.frame.specs.declared.Frame.{Frame}
-use Rattle.frame.specs.Bytes.{littleEndian}
+use Rattle.bytes.specs.Words.{littleEndian}
+use Rattle.estimate.specs.Fields.{noEstimate}
+use Rattle.frame.specs.Kinds.{anyOf, partsOf, partCount, hasParts}
 use Rattle.frame.specs.Format.{header, frameBytes}
 use Rattle.scram.specs.Quorum.{majority, coordinator, beats}
-use Rattle.scram.specs.Replica.{Best}
-use Rattle.scram.specs.Events.{pick, better}
-use Rattle.cases.specs.Bench.{first, bench}
+use Rattle.scram.specs.Held.{Best}
+use Rattle.scram.specs.Events.{better}
+use Rattle.setup.specs.Bench.{first, bench}
 
 -- a case: what a definition gives, and what document 01 says, each as a list of numbers
 pub record Case : Type 0 where
@@ -31,7 +36,7 @@ one n = pos n ∷ []
 
 -- the state after one update of state x under the bench's law, with a reading y
 abbrev after : ℤ → Bool → ℤ → List ℤ
-after x mark y = updated bench (first x 5) (record { present = mark ∷ replicate 3 false; values = first y 3 })
+after x mark y = updated (bench .law) (first x 5) (record { present = mark ∷ replicate 3 false; values = first y 3 })
 
 -- an Ack of box 2, period 1, view 0
 abbrev ack : Frame
@@ -42,8 +47,7 @@ ack = record {
   view = 0;
   «base_view» = 0;
   «base_period» = 0;
-  state = replicate 6 (pos 0);
-  readings = record { present = replicate 4 false; values = replicate 4 (pos 0) };
+  estimate = noEstimate;
 }
 
 -- an estimate heard from a box, with its bases; the state stands for the box
@@ -53,8 +57,7 @@ estimate box baseView basePeriod = record {
   box = box;
   baseView = baseView;
   basePeriod = basePeriod;
-  state = box;
-  readings = 0;
+  estimate = record { state = box; readings = 0 };
 }
 
 -- P1 "bench law, x 0, y 101: 50." P2 "y −101: −51." P3 "x 50, y 101: 75." P4 "x 50, absent: 50.", with a value under the absent mark.
@@ -72,12 +75,12 @@ cases =
     ∷ case (one (majority 4)) (one 3)
     ∷ case (one (coordinator 3 2)) (one 3)
     ∷ case (map pos (frameBytes 1 1 ack)) (map pos (2 ∷ 2 ∷ 0 ∷ 0 ∷ 1 ∷ replicate 15 0))
-    ∷ case (one (better (estimate 1 4 4) (estimate 9 5 3) .state)) (one 9)
-    ∷ case (pos (better (estimate 3 1 1) (estimate 2 1 1) .state) ∷ one (better (estimate 2 1 1) (estimate 3 1 1) .state)) (pos 2 ∷ one 2)
+    ∷ case (one (better (estimate 1 4 4) (estimate 9 5 3) .estimate .state)) (one 9)
+    ∷ case (pos (better (estimate 3 1 1) (estimate 2 1 1) .estimate .state) ∷ one (better (estimate 2 1 1) (estimate 3 1 1) .estimate .state)) (pos 2 ∷ one 2)
     ∷ []
 
 -- every row holds
 pub cases-hold : map (λ (c : Case). c .gives) cases ≡ map (λ (c : Case). c .says) cases
-unfolding updated refusal sizesInRange coefficientsInRange tableInRange every inRange limitsInOrder filled next e sum divided
-    limited clamp majority coordinator frameBytes header littleEndian better beats pick
+unfolding updated refusal refusals firstOf sizesInRange coefficientsInRange tableInRange allBelow inRange limitsInOrder filled next e sum divided
+    limited clamp majority coordinator frameBytes header partCount hasParts partsOf anyOf littleEndian better beats pick
 cases-hold = refl

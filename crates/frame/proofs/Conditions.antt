@@ -1,17 +1,20 @@
 -- The conditions of refusal 8 as plain facts, and the facts as conditions. Assumes nothing.
-use mathlib.Core.Path.{_≡_, refl, _∙_}
-use mathlib.Core.Bool.{Bool, true, false}
+use mathlib.Core.Path.{_≡_, _∙_}
+use mathlib.Core.Bool.{true, false}
 use mathlib.Core.List.{List}
-use Prim.Native.Nat.{ℕ, _+_, _*_, _≤_, _<_}
+use Prim.Native.Nat.{ℕ, _+_, _≤_, _<_}
 use native.Mathlib.Omega.{arith}
 use lib.ListN.{length, getD}
 use lib.Dec.{eqb, leb}
 use borrow.Author.Tests.{eq-eqb, ne-eqb, eqb-true, leb-true}
+use Rattle.lists.proofs.Booleans.{both}
+use Rattle.lists.proofs.Choice.{pick-ok, pick-true, pick-false}
+use Rattle.bytes.specs.Words.{numberAt}
+use Rattle.estimate.specs.Lengths.{stateLength, readingsLength, estimateLength}
 use Rattle.frame.specs.Sizes.{sizesOk}
-use Rattle.frame.specs.Bytes.{numberAt}
-use Rattle.frame.specs.Format.{isAck, partCount, frameLength}
-use Rattle.frame.specs.Reading.{kindIn, lengthOk, kindOk, partCountOk, byteThreeOk, pairsOk, headerOk}
-use Rattle.frame.proofs.Booleans.{both}
+use Rattle.frame.specs.Kinds.{kindOk, partCount, hasParts}
+use Rattle.frame.specs.Lengths.{headerLength, pairStart, partsStart, frameLength}
+use Rattle.frame.specs.Reading.{kindIn, lengthOk, partCountOk, byteThreeOk, pairsOk, headerOk}
 
 pub record Sized (n m : ℕ) : Type 0 where
   pub n-low : 1 ≤ n
@@ -48,46 +51,44 @@ module _ (n m : ℕ) (b : List ℕ) where
   unfolding headerOk lengthOk partCountOk byteThreeOk
   header-holds h = rw (eq-eqb _ _ (h .len), h .known, eq-eqb _ _ (h .count), eq-eqb _ _ (h .zeroed))
 
-  ack-length : isAck (kindIn b) ≡ true → frameLength n m (kindIn b) ≡ 20
-  ack-length k = rw k
+  length-least : headerLength ≤ frameLength n m (kindIn b)
+  length-least = pick-ok (λ (k : ℕ). headerLength ≤ k) (hasParts (kindIn b)) _ _ (λ _. omega arith) (λ _. omega arith)
 
-  full-length : isAck (kindIn b) ≡ false → frameLength n m (kindIn b) ≡ 29 + 4 * n + 4 * m
-  full-length k = rw k
-
-  length-least : (t : Bool) → isAck (kindIn b) ≡ t → 20 ≤ frameLength n m (kindIn b)
-  length-least true k = rw k (omega arith)
-  length-least false k = rw k (omega arith)
-
-  pub too-short : length b < 20 → headerOk n m b ≡ false
+  pub too-short : length b < headerLength → headerOk n m b ≡ false
   unfolding headerOk lengthOk
-  too-short h = let l = length-least (isAck (kindIn b)) refl in rw (ne-eqb (length b) (frameLength n m (kindIn b)) (λ e. omega arith))
+  too-short h = let l = length-least in rw (ne-eqb (length b) (frameLength n m (kindIn b)) (λ e. omega arith))
 
   -- a header is there in any case
-  pub header-there : Header n m b → 20 ≤ length b
-  header-there h = omega (arith, h .len, length-least (isAck (kindIn b)) refl)
+  pub header-there : Header n m b → headerLength ≤ length b
+  header-there h = omega (arith, h .len, length-least)
 
-  pub ack-len : Header n m b → isAck (kindIn b) ≡ true → length b ≡ 20
-  ack-len h k = h .len ∙ ack-length k
+  pub no-parts-length : Header n m b → hasParts (kindIn b) ≡ false → length b ≡ headerLength
+  no-parts-length h k = h .len ∙ pick-false _ _ _ k
 
-  pub full-len : Header n m b → isAck (kindIn b) ≡ false → length b ≡ 29 + 4 * n + 4 * m
-  full-len h k = h .len ∙ full-length k
+  pub parts-length : Header n m b → hasParts (kindIn b) ≡ true → length b ≡ partsStart + estimateLength n m
+  parts-length h k = h .len ∙ pick-true _ _ _ k
 
 -- ---- the pairs
 
 pub record Pairs (n m : ℕ) (b : List ℕ) : Type 0 where
-  pub at20 : numberAt 2 b 20 ≡ 28
-  pub at22 : numberAt 2 b 22 ≡ 4 * n
-  pub at24 : numberAt 2 b 24 ≡ 28 + 4 * n
-  pub at26 : numberAt 2 b 26 ≡ 1 + 4 * m
+  pub state-offset : numberAt 2 b (pairStart 0) ≡ partsStart
+  pub state-length : numberAt 2 b (pairStart 0 + 2) ≡ stateLength n
+  pub readings-offset : numberAt 2 b (pairStart 1) ≡ partsStart + stateLength n
+  pub readings-length : numberAt 2 b (pairStart 1 + 2) ≡ readingsLength m
 
 pub pairs-facts : (n m : ℕ) (b : List ℕ) → pairsOk n m b ≡ true → Pairs n m b
 unfolding pairsOk
 pairs-facts n m b e =
-    let p = both (eqb (numberAt 2 b 20) 28) _ e in
-    let q = both (eqb (numberAt 2 b 22) (4 * n)) _ (p .1) in
-    let r = both (eqb (numberAt 2 b 24) (28 + 4 * n)) _ (q .1) in
-    record { at20 = eqb-true _ _ (p .0); at22 = eqb-true _ _ (q .0); at24 = eqb-true _ _ (r .0); at26 = eqb-true _ _ (r .1) }
+    let p = both (eqb (numberAt 2 b (pairStart 0)) partsStart) _ e in
+    let q = both (eqb (numberAt 2 b (pairStart 0 + 2)) (stateLength n)) _ (p .1) in
+    let r = both (eqb (numberAt 2 b (pairStart 1)) (partsStart + stateLength n)) _ (q .1) in
+    record {
+      state-offset = eqb-true _ _ (p .0);
+      state-length = eqb-true _ _ (q .0);
+      readings-offset = eqb-true _ _ (r .0);
+      readings-length = eqb-true _ _ (r .1);
+    }
 
 pub pairs-hold : (n m : ℕ) (b : List ℕ) → Pairs n m b → pairsOk n m b ≡ true
 unfolding pairsOk
-pairs-hold n m b p = rw (eq-eqb _ _ (p .at20), eq-eqb _ _ (p .at22), eq-eqb _ _ (p .at24), eq-eqb _ _ (p .at26))
+pairs-hold n m b p = rw (eq-eqb _ _ (p .state-offset), eq-eqb _ _ (p .state-length), eq-eqb _ _ (p .readings-offset), eq-eqb _ _ (p .readings-length))

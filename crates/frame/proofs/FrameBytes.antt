@@ -1,58 +1,55 @@
 -- The bytes of a frame: their pieces and their length. Assumes nothing.
-use mathlib.Core.Path.{_≡_, refl, ap, _∙_}
-use mathlib.Core.Bool.{Bool, true, false, cond}
-use mathlib.Core.List.{List, [], _∷_, _++_, append-assoc}
-use Prim.Native.Nat.{ℕ, _+_, _*_, _≤_}
+use mathlib.Core.Path.{_≡_, refl, sym, ap, _∙_}
+use mathlib.Core.Bool.{Bool, true, false}
+use mathlib.Core.List.{_++_}
+use Prim.Native.Nat.{ℕ, _+_, _≤_}
 use native.Mathlib.Omega.{arith}
-use lib.ListN.{length, take, length-append}
-use lib.IntN.{ℤ}
-use Rattle.readings.specs.declared.Readings.{Readings}
-use Rattle.frame.specs.Bytes.{littleEndian, valuesBytes}
-use Rattle.frame.specs.Marks.{marksByte}
-use Rattle.frame.specs.Format.{isAck, header, pairs, frameBytes, frameLength}
+use lib.ListN.{length, length-append}
+use Rattle.lists.proofs.Choice.{pick-ok, pick-true, pick-false}
+use Rattle.bytes.specs.Words.{littleEndian}
+use Rattle.estimate.specs.Lengths.{estimateLength}
+use Rattle.estimate.specs.Format.{estimateBytes}
+use Rattle.estimate.proofs.Lengths.{length-estimate}
+use Rattle.frame.specs.Kinds.{hasParts}
+use Rattle.frame.specs.Lengths.{headerLength, pairLength, partsStart, frameLength, longestFrame}
+use Rattle.frame.specs.Format.{header, pairs, frameBytes}
 use Rattle.frame.specs.declared.Frame.{Frame}
-use Rattle.frame.proofs.ValueLists.{length-first}
 
 -- ---- the pieces
 
-pub length-header : (f : Frame) → length (header f) ≡ 20
+pub length-header : (f : Frame) → length (header f) ≡ headerLength
 unfolding header littleEndian
 length-header f = refl
 
-pub length-pairs : (n m : ℕ) → length (pairs n m) ≡ 8
+pub length-pairs : (n m : ℕ) → length (pairs n m) ≡ pairLength + pairLength
 unfolding pairs littleEndian
 length-pairs n m = refl
 
--- the two parts
-abbrev pub partBytes : ℕ → ℕ → List ℤ → Readings → List ℕ
-partBytes n m x y = valuesBytes (take n x) ++ (marksByte y ∷ []) ++ valuesBytes (take m (y .values))
-
-pub length-parts : (n m : ℕ) (x : List ℤ) (y : Readings) → n ≤ length x → m ≤ length (y .values) → length (partBytes n m x y) ≡ 1 + 4 * n + 4 * m
-length-parts n m x y hx hy = simp (length-append, length-first n x hx, length-first m (y .values) hy) (omega arith)
+pub length-front : (n m : ℕ) (f : Frame) → length (header f ++ pairs n m) ≡ partsStart
+length-front n m f = simp (length-append, length-header, length-pairs)
 
 module _ (n m : ℕ) (f : Frame) where
-  pub ack-bytes : isAck (f .kind) ≡ true → frameBytes n m f ≡ header f
+  pub no-parts-bytes : hasParts (f .kind) ≡ false → frameBytes n m f ≡ header f
   unfolding frameBytes
-  ack-bytes k = rw k
+  no-parts-bytes k = pick-false _ _ _ k
 
-  pub full-bytes : isAck (f .kind) ≡ false → frameBytes n m f ≡ (header f ++ pairs n m) ++ partBytes n m (f .state) (f .readings)
+  pub parts-bytes : hasParts (f .kind) ≡ true → frameBytes n m f ≡ (header f ++ pairs n m) ++ estimateBytes n m (f .estimate)
   unfolding frameBytes
-  full-bytes k = rw k (simp append-assoc)
+  parts-bytes k = pick-true _ _ _ k
 
   -- ---- the length
 
-  length-by : (t : Bool) → isAck (f .kind) ≡ t → n ≤ length (f .state) → m ≤ length (f .readings .values) → length (frameBytes n m f) ≡ cond t 20 (29 + 4 * n + 4 * m)
-  length-by true k hx hy = ap length (ack-bytes k) ∙ length-header f
-  length-by false k hx hy =
-      ap length (full-bytes k)
-      ∙ simp (length-append (header f ++ pairs n m), length-append (header f), length-header, length-pairs, length-parts n m (f .state) (f .readings) hx hy) (omega arith)
+  module _ (hx : n ≤ length (f .estimate .state)) (hy : m ≤ length (f .estimate .readings .values)) where
+    pub length-whole : length ((header f ++ pairs n m) ++ estimateBytes n m (f .estimate)) ≡ partsStart + estimateLength n m
+    length-whole = simp (length-append (header f ++ pairs n m), length-front, length-estimate n m (f .estimate) hx hy)
 
-  pub length-frame : n ≤ length (f .state) → m ≤ length (f .readings .values) → length (frameBytes n m f) ≡ frameLength n m (f .kind)
-  length-frame hx hy = length-by (isAck (f .kind)) refl hx hy
+    length-by : (t : Bool) → hasParts (f .kind) ≡ t → length (frameBytes n m f) ≡ frameLength n m (f .kind)
+    length-by true k = ap length (parts-bytes k) ∙ length-whole ∙ sym (pick-true _ _ _ k)
+    length-by false k = ap length (no-parts-bytes k) ∙ length-header f ∙ sym (pick-false _ _ _ k)
 
-length-most-by : (n m : ℕ) (t : Bool) → n ≤ 6 → m ≤ 4 → cond t 20 (29 + 4 * n + 4 * m) ≤ 69
-length-most-by n m true hn hm = omega arith
-length-most-by n m false hn hm = omega arith
+    pub length-frame : length (frameBytes n m f) ≡ frameLength n m (f .kind)
+    length-frame = length-by (hasParts (f .kind)) refl
 
-pub length-most : (n m kind : ℕ) → n ≤ 6 → m ≤ 4 → frameLength n m kind ≤ 69
-length-most n m kind hn hm = length-most-by n m (isAck kind) hn hm
+pub length-most : (n m kind : ℕ) → n ≤ 6 → m ≤ 4 → frameLength n m kind ≤ longestFrame
+length-most n m kind hn hm =
+    pick-ok (λ (k : ℕ). k ≤ longestFrame) (hasParts kind) _ _ (λ _. omega arith) (λ _. omega arith)

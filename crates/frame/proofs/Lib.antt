@@ -1,11 +1,4 @@
--- Laws of bytes, of frames and of their round trips.
-pub mod Booleans
-pub mod Numbers
-pub mod TwosComplement
-pub mod Areas
-pub mod FilledPlaces
-pub mod ValueLists
-pub mod PresentMarks
+-- Laws of frames and of their round trips.
 pub mod Conditions
 pub mod FrameBytes
 pub mod Refusals

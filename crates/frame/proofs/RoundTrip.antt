@@ -5,7 +5,7 @@ use mathlib.Core.List.{List}
 use Prim.Native.Nat.{ℕ}
 use native.Mathlib.Omega.{arith}
 use Rattle.frame.specs.Sizes.{sizesOk}
-use Rattle.frame.specs.Bytes.{AllBytes}
+use Rattle.bytes.specs.Words.{AllBytes}
 use Rattle.frame.specs.Format.{frameBytes}
 use Rattle.frame.specs.Fields.{Typed, carried}
 use Rattle.frame.specs.Reading.{readRefusal, readFrame, ReadAs}
@@ -29,6 +29,7 @@ read-well-formed n m b h e =
     let a = accepted n m b e in ap (wellFormed m) (frame-read n m b e) ∙ good-back n m b h (a .sized) (a .good)
 
 -- (c) Bytes that are refused by 8 are no well-formed frame's bytes.
-pub refused-no-frame : (n m : ℕ) (b : List ℕ) → readRefusal n m b ≡ 8 → (f : Frame) → Typed f → sizesOk n m ≡ true → wellFormed m f ≡ true → frameBytes n m f ≡ b → ⊥
+pub refused-no-frame : (n m : ℕ) (b : List ℕ) → readRefusal n m b ≡ 8 → (f : Frame) → Typed f → sizesOk n m ≡ true → wellFormed m f ≡ true
+    → frameBytes n m f ≡ b → ⊥
 refused-no-frame n m b r f t ok good e =
     let z : _≡_ {A = ℕ} 8 0 = sym r ∙ ap (readRefusal n m) (sym e) ∙ read-write n m f t ok good .done in omega arith

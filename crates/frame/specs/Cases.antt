@@ -5,9 +5,9 @@ use mathlib.Core.Bool.{true, false}
 use mathlib.Core.List.{List, [], _∷_, _++_}
 use lib.ListN.{replicate}
 use lib.IntN.{pos, negsuc}
-use Rattle.readings.specs.Readings.{noReadings}
+use Rattle.estimate.specs.Fields.{noEstimate}
 use Rattle.frame.specs.Format.{frameBytes}
-use Rattle.frame.specs.Fields.{noState}
+use Rattle.frame.specs.Kinds.{propose, ack}
 use Rattle.frame.specs.declared.Frame.{Frame}
 
 -- a frame of n states and m readings, and its bytes
@@ -25,14 +25,13 @@ ackCase n m =
       m = m;
       frame =
           record {
-            kind = 2;
+            kind = ack .number;
             sender = 2;
             period = 1;
             view = 0;
             «base_view» = 0;
             «base_period» = 0;
-            state = noState;
-            readings = noReadings;
+            estimate = noEstimate;
           };
       bytes = 2 ∷ 2 ∷ 0 ∷ 0 ∷ 1 ∷ replicate 15 0;
     }
@@ -45,14 +44,17 @@ proposeCase =
       m = 2;
       frame =
           record {
-            kind = 1;
+            kind = propose .number;
             sender = 3;
             period = 258;
             view = 5;
             «base_view» = 5;
             «base_period» = 258;
-            state = pos 1 ∷ negsuc 0 ∷ negsuc 2147483647 ∷ pos 2147483647 ∷ pos 0 ∷ pos 0 ∷ [];
-            readings = record { present = false ∷ true ∷ false ∷ false ∷ []; values = pos 0 ∷ negsuc 1 ∷ pos 0 ∷ pos 0 ∷ [] };
+            estimate =
+                record {
+                  state = pos 1 ∷ negsuc 0 ∷ negsuc 2147483647 ∷ pos 2147483647 ∷ pos 0 ∷ pos 0 ∷ [];
+                  readings = record { present = false ∷ true ∷ false ∷ false ∷ []; values = pos 0 ∷ negsuc 1 ∷ pos 0 ∷ pos 0 ∷ [] };
+                };
           };
       bytes =
           (1 ∷ 3 ∷ 2 ∷ 0 ∷ [])

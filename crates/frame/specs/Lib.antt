@@ -1,8 +1,9 @@
--- The definitions, in the order to read: answers and sizes, bytes, the format, what reading finds and what writing does, commands, worked frames.
+-- The definitions, in the order to read: answers and sizes, kinds and lengths, the format, what reading finds and what writing does, commands,
+-- worked frames.
 pub mod Answers
 pub mod Sizes
-pub mod Bytes
-pub mod Marks
+pub mod Kinds
+pub mod Lengths
 pub mod Format
 pub mod Fields
 pub mod Reading

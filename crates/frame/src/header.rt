@@ -1,45 +1,27 @@
-// The 20 bytes that every frame starts with.
+// The bytes that every frame starts with.
 ghost use mathlib.Core.Path.{_≡_};
 ghost use Prim.Native.Nat.{_≤_};
 ghost use lib.ListN.{length};
-ghost use Rattle.frame.specs.Bytes.{put};
-ghost use Rattle.frame.specs.Format.{partCount, frameLength, header};
-ghost use Rattle.frame.specs.Reading.{kindOk, headerOk, headed};
+ghost use Rattle.bytes.specs.Areas.{put};
+ghost use Rattle.frame.specs.Lengths.{headerLength};
+ghost use Rattle.frame.specs.Format.{header};
+ghost use Rattle.frame.specs.Reading.{headerOk, headed};
 use crate::Frame;
-use crate::word::put_4;
-use crate::word::put_u32;
-use crate::word::u32_at;
-use readings::Readings;
-
-// The kind that has no parts.
-pub(crate) const ACK: u8 = 2;
-
-fn part_count(kind: u8) -> u8
-    ensures { λ r. ⌜ r ≡ partCount kind ⌝ }
-{
-    if kind == ACK { 0 } else { 2 }
-}
-
-fn frame_length(n: usize, m: usize, kind: u8) -> usize
-    requires { ⌜ (n ≤ 6) × (m ≤ 4) ⌝ }
-    ensures { λ r. ⌜ r ≡ frameLength n m kind ⌝ }
-{
-    if kind == ACK { 20 } else { 29 + 4 * n + 4 * m }
-}
-
-// Propose, Ack, Decide or Estimate.
-pub(crate) fn kind_ok(kind: u8) -> bool
-    ensures { λ r. ⌜ r ≡ kindOk kind ⌝ }
-{
-    if kind < 1 { false } else { kind <= 4 }
-}
+use crate::kinds::kind_ok;
+use crate::kinds::part_count;
+use crate::lengths::HEADER_LENGTH;
+use crate::lengths::frame_length;
+use bytes::word::put_4;
+use bytes::word::put_u32;
+use bytes::word::u32_at;
+use estimate::Estimate;
 
 // Length, kind, part count and byte 3 are what they must be.
 pub(crate) fn header_ok(n: usize, m: usize, bytes: &[u8]) -> bool
     requires { ⌜ (n ≤ 6) × (m ≤ 4) ⌝ }
     ensures { λ r. ⌜ r ≡ headerOk n m (now (bytes .entry)) ⌝ }
 {
-    if bytes.len() < 20 {
+    if bytes.len() < HEADER_LENGTH {
         return false;
     }
     let kind = bytes[0];
@@ -57,10 +39,10 @@ pub(crate) fn header_ok(n: usize, m: usize, bytes: &[u8]) -> bool
     zero == 0
 }
 
-// The fields of a header, with a state and readings.
-pub(crate) fn headed_by(bytes: &[u8], state: [i32; 6], readings: Readings) -> Frame
-    requires { ⌜ 20 ≤ length (now bytes) ⌝ }
-    ensures { λ r. ⌜ r ≡ headed (now (bytes .entry)) state readings ⌝ }
+// The fields of a header, with an estimate.
+pub(crate) fn headed_by(bytes: &[u8], estimate: Estimate) -> Frame
+    requires { ⌜ headerLength ≤ length (now bytes) ⌝ }
+    ensures { λ r. ⌜ r ≡ headed (now (bytes .entry)) estimate ⌝ }
 {
     let kind = bytes[0];
     let sender = bytes[1];
@@ -75,13 +57,12 @@ pub(crate) fn headed_by(bytes: &[u8], state: [i32; 6], readings: Readings) -> Fr
         view,
         base_view,
         base_period,
-        state,
-        readings,
+        estimate,
     }
 }
 
 pub(crate) fn put_header(frame: Frame, area: &mut [u8])
-    requires { ⌜ 20 ≤ length (now area) ⌝ }
+    requires { ⌜ headerLength ≤ length (now area) ⌝ }
     ensures { λ _. ⌜ now (area .exit) ≡ put (now (area .entry)) 0 (header frame) ⌝ }
 {
     put_4(area, 0, frame.kind, frame.sender, part_count(frame.kind), 0);

@@ -1,39 +1,45 @@
 // The frames of document 01: read from bytes, and written to an area that the caller lends.
 mod command;
 mod header;
-mod marks;
+pub mod kinds;
+pub mod lengths;
 mod parts;
-mod values;
-mod word;
 
 ghost use mathlib.Core.Path.{_≡_};
 ghost use Prim.Native.Nat.{_≤_};
 ghost use lib.ListN.{length};
+ghost use Rattle.bytes.specs.Areas.{put, over};
 ghost use Rattle.frame.specs.Answers.{number};
 ghost use Rattle.frame.specs.Sizes.{sizesOk};
-ghost use Rattle.frame.specs.Bytes.{put, over};
+ghost use Rattle.frame.specs.Lengths.{longestFrame};
 ghost use Rattle.frame.specs.Format.{frameBytes};
 ghost use Rattle.frame.specs.Fields.{blank};
 ghost use Rattle.frame.specs.Reading.{readRefusal, readFrame};
 ghost use Rattle.frame.specs.Writing.{wellFormed, writeRefusal, written};
 ghost use Rattle.frame.specs.Command.{commandRefusal, commandWritten, commandValues};
-use command::LONGEST_COMMAND;
+use bytes::values::read_values;
 use command::put_command;
-use header::ACK;
+use estimate::Estimate;
+use estimate::marks::is_writable;
+use estimate::marks::readings_ok;
+use estimate::no_estimate;
+use estimate::parts::estimate_length;
+use estimate::parts::put_estimate;
 use header::headed_by;
 use header::header_ok;
-use header::kind_ok;
 use header::put_header;
-use marks::absent_zero;
-use marks::readings_ok;
+use kinds::has_parts;
+use kinds::kind_ok;
+use lengths::COMMAND_START;
+use lengths::HEADER_LENGTH;
+use lengths::LONGEST_COMMAND;
+use lengths::LONGEST_FRAME;
+use lengths::PARTS_START;
 use parts::pairs_ok;
 use parts::put_pairs;
-use parts::put_parts;
 use parts::read_parts;
-use readings::Readings;
-use values::read_values;
 
-// Kinds are 1 Propose, 2 Ack, 3 Decide and 4 Estimate. An Ack carries no state and no readings.
+// The kind is one of `kinds`. Where it has no parts, the bytes carry no estimate.
 pub struct Frame {
     pub kind: u8,
     pub sender: u8,
@@ -41,8 +47,7 @@ pub struct Frame {
     pub view: u32,
     pub base_view: u32,
     pub base_period: u32,
-    pub state: [i32; 6],
-    pub readings: Readings,
+    pub estimate: Estimate,
 }
 
 // Done: nothing is refused. Sizes is refusal 2, Area 5 and Malformed 8.
@@ -97,7 +102,7 @@ fn sizes_ok(n: usize, m: usize) -> bool
 fn refused_read(answer: Answer) -> Parsed
     ensures { λ r. ⌜ (r .answer ≡ answer) × (r .frame ≡ blank) ⌝ }
 {
-    let readings = readings::no_readings();
+    let estimate = no_estimate();
     Parsed {
         answer,
         frame: Frame {
@@ -107,8 +112,7 @@ fn refused_read(answer: Answer) -> Parsed
             view: 0,
             base_view: 0,
             base_period: 0,
-            state: [0i32; 6],
-            readings,
+            estimate,
         },
     }
 }
@@ -132,8 +136,8 @@ pub fn read(n: usize, m: usize, bytes: &[u8]) -> Parsed
         return refused_read(Answer::Malformed);
     }
     let kind = bytes[0];
-    if kind == ACK {
-        let frame = headed_by(bytes, [0i32; 6], readings::no_readings());
+    if !has_parts(kind) {
+        let frame = headed_by(bytes, no_estimate());
         return Parsed {
             answer: Answer::Done,
             frame,
@@ -143,12 +147,12 @@ pub fn read(n: usize, m: usize, bytes: &[u8]) -> Parsed
         return refused_read(Answer::Malformed);
     }
     let parts = read_parts(n, m, bytes);
-    let readings = parts.readings;
+    let estimate = parts.estimate;
+    let readings = estimate.readings;
     if !readings_ok(m, parts.marks, readings) {
         return refused_read(Answer::Malformed);
     }
-    let state = parts.state;
-    let frame = headed_by(bytes, state, readings);
+    let frame = headed_by(bytes, estimate);
     Parsed {
         answer: Answer::Done,
         frame,
@@ -164,31 +168,28 @@ fn well_formed(m: usize, frame: Frame) -> bool
     if !kind_ok(kind) {
         return false;
     }
-    if kind == ACK {
+    if !has_parts(kind) {
         return true;
     }
-    let readings = frame.readings;
-    if readings::has_stray_mark(m, readings) {
-        return false;
-    }
-    absent_zero(m, readings)
+    let readings = frame.estimate.readings;
+    is_writable(m, readings)
 }
 
 // Writes a frame and returns its length.
 fn put_frame(n: usize, m: usize, frame: Frame, area: &mut [u8]) -> usize
-    requires { ⌜ (n ≤ 6) × (m ≤ 4) × (69 ≤ length (now area)) ⌝ }
-    ensures { λ r. ⌜ (r ≡ length (frameBytes n m frame)) × (now (area .exit) ≡ put (now (area .entry)) 0 (frameBytes n m frame)) ⌝ }
+    requires { ⌜ (n ≤ 6) × (m ≤ 4) × (longestFrame ≤ length (now area)) ⌝ }
+    ensures { λ r. ⌜ (r ≡ length (frameBytes n m frame))
+        × (now (area .exit) ≡ put (now (area .entry)) 0 (frameBytes n m frame)) ⌝ }
 {
     put_header(frame, area);
     let kind = frame.kind;
-    if kind == ACK {
-        return 20;
+    if !has_parts(kind) {
+        return HEADER_LENGTH;
     }
     put_pairs(n, m, area);
-    let state = frame.state;
-    let readings = frame.readings;
-    put_parts(n, m, state, readings, area);
-    29 + 4 * n + 4 * m
+    let estimate = frame.estimate;
+    put_estimate(n, m, estimate, area, PARTS_START);
+    PARTS_START + estimate_length(n, m)
 }
 
 // Writes a frame of n states and m readings to the start of an area.
@@ -200,7 +201,7 @@ pub fn write(n: usize, m: usize, frame: Frame, area: &mut [u8]) -> Written
     if !sizes_ok(n, m) {
         return refused_write(Answer::Sizes);
     }
-    if area.len() < 69 {
+    if area.len() < LONGEST_FRAME {
         return refused_write(Answer::Area);
     }
     if !well_formed(m, frame) {
@@ -243,6 +244,6 @@ pub fn command_values(area: &[u8]) -> [i32; 4]
     if area.len() < LONGEST_COMMAND {
         return values;
     }
-    read_values(&area[8..], &mut values);
+    read_values(&area[COMMAND_START..], &mut values);
     values
 }

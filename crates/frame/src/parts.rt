@@ -1,106 +1,86 @@
 // The pairs of offset and length, and the two parts that they point to.
 ghost use mathlib.Core.Path.{_≡_};
 ghost use mathlib.Core.Bool.{true};
-ghost use mathlib.Core.List.{[], _∷_, _++_};
-ghost use Prim.Native.Nat.{_+_, _*_, _≤_};
-ghost use lib.ListN.{length, take};
-ghost use Rattle.frame.specs.Bytes.{put, valuesBytes};
-ghost use Rattle.frame.specs.Marks.{marksByte};
+ghost use Prim.Native.Nat.{_+_, _≤_};
+ghost use lib.ListN.{length};
+ghost use Rattle.bytes.specs.Areas.{put};
+ghost use Rattle.estimate.specs.Lengths.{estimateLength};
+ghost use Rattle.estimate.specs.Reading.{marksAt, readingsPart, estimateAt};
+ghost use Rattle.frame.specs.Lengths.{pairStart, partsStart};
 ghost use Rattle.frame.specs.Format.{pairs};
-ghost use Rattle.frame.specs.Reading.{pairsOk, stateIn, readingsIn, statePart, readingsPart, marksAt};
-use crate::marks::marks_byte;
-use crate::marks::marks_in;
-use crate::values::put_values;
-use crate::values::read_values;
-use crate::word::put_byte;
-use crate::word::put_u16;
-use crate::word::u16_at;
-use readings::Readings;
+ghost use Rattle.frame.specs.Reading.{pairsOk};
+use crate::lengths::HEADER_LENGTH;
+use crate::lengths::PAIR_LENGTH;
+use crate::lengths::PARTS_START;
+use bytes::word::put_u16;
+use bytes::word::u16_at;
+use estimate::Estimate;
+use estimate::parts::read_readings;
+use estimate::parts::read_state;
+use estimate::parts::readings_length;
+use estimate::parts::state_length;
+
+// Where the pairs stand: of each part its offset, then its length.
+const STATE_OFFSET: usize = HEADER_LENGTH;
+
+const STATE_LENGTH: usize = STATE_OFFSET + 2;
+
+const READINGS_OFFSET: usize = STATE_OFFSET + PAIR_LENGTH;
+
+const READINGS_LENGTH: usize = READINGS_OFFSET + 2;
 
 // What the parts of a frame hold; `marks` is the byte of present marks.
 pub(crate) struct Parts {
-    pub state: [i32; 6],
     pub marks: u8,
-    pub readings: Readings,
+    pub estimate: Estimate,
 }
 
 // The state's part is the first, and the readings' part follows it without a gap.
 pub(crate) fn pairs_ok(n: usize, m: usize, bytes: &[u8]) -> bool
-    requires { ⌜ (n ≤ 6) × (m ≤ 4) × (28 ≤ length (now bytes)) ⌝ }
+    requires { ⌜ (n ≤ 6) × (m ≤ 4) × (partsStart ≤ length (now bytes)) ⌝ }
     ensures { λ r. ⌜ r ≡ pairsOk n m (now (bytes .entry)) ⌝ }
 {
-    if u16_at(bytes, 20) != 28 {
+    let states = state_length(n);
+    if u16_at(bytes, STATE_OFFSET) != PARTS_START {
         return false;
     }
-    if u16_at(bytes, 22) != 4 * n {
+    if u16_at(bytes, STATE_LENGTH) != states {
         return false;
     }
-    if u16_at(bytes, 24) != 28 + 4 * n {
+    if u16_at(bytes, READINGS_OFFSET) != PARTS_START + states {
         return false;
     }
-    u16_at(bytes, 26) == 1 + 4 * m
-}
-
-// The state reader: n values, and 0 in the other places.
-fn read_state(n: usize, part: &[u8]) -> [i32; 6]
-    requires { ⌜ (n ≤ 6) × (length (now part) ≡ 4 * n) ⌝ }
-    ensures { λ r. ⌜ r ≡ stateIn n (now (part .entry)) ⌝ }
-{
-    let mut state = [0i32; 6];
-    read_values(part, &mut state[..n]);
-    state
-}
-
-// The readings reader: the marks, then m values, and 0 in the other places.
-fn read_readings(m: usize, part: &[u8]) -> Readings
-    requires { ⌜ (m ≤ 4) × (length (now part) ≡ 1 + 4 * m) ⌝ }
-    ensures { λ r. ⌜ r ≡ readingsIn m (now (part .entry)) ⌝ }
-{
-    let present = marks_in(part[0]);
-    let mut values = [0i32; 4];
-    read_values(&part[1..], &mut values[..m]);
-    Readings { present, values }
+    u16_at(bytes, READINGS_LENGTH) == readings_length(m)
 }
 
 // Each part goes to its own reader, at the offset and the length that the frame gives.
 pub(crate) fn read_parts(n: usize, m: usize, bytes: &[u8]) -> Parts
-    requires { ⌜ (n ≤ 6) × (m ≤ 4) × (length (now bytes) ≡ 29 + 4 * n + 4 * m) × (pairsOk n m (now bytes) ≡ true) ⌝ }
-    ensures { λ r. ⌜ (r .state ≡ stateIn n (statePart n (now (bytes .entry))))
-        × (r .marks ≡ marksAt (readingsPart n m (now (bytes .entry)))) × (r .readings ≡ readingsIn m (readingsPart n m (now (bytes .entry)))) ⌝ }
+    requires { ⌜ (n ≤ 6) × (m ≤ 4) × (length (now bytes) ≡ partsStart + estimateLength n m)
+        × (pairsOk n m (now bytes) ≡ true) ⌝ }
+    ensures { λ r. ⌜ (r .marks ≡ marksAt (readingsPart n m (now (bytes .entry)) partsStart))
+        × (r .estimate ≡ estimateAt n m (now (bytes .entry)) partsStart) ⌝ }
 {
-    let state_start = u16_at(bytes, 20);
-    let state_end = state_start + u16_at(bytes, 22);
-    let readings_start = u16_at(bytes, 24);
-    let readings_end = readings_start + u16_at(bytes, 26);
+    let state_start = u16_at(bytes, STATE_OFFSET);
+    let state_end = state_start + u16_at(bytes, STATE_LENGTH);
+    let readings_start = u16_at(bytes, READINGS_OFFSET);
+    let readings_end = readings_start + u16_at(bytes, READINGS_LENGTH);
     let state = read_state(n, &bytes[state_start..state_end]);
     let part = &bytes[readings_start..readings_end];
     let marks = part[0];
     let readings = read_readings(m, part);
     Parts {
-        state,
         marks,
-        readings,
+        estimate: Estimate { state, readings },
     }
 }
 
 pub(crate) fn put_pairs(n: usize, m: usize, area: &mut [u8])
-    requires { ⌜ (n ≤ 6) × (m ≤ 4) × (28 ≤ length (now area)) ⌝ }
-    ensures { λ _. ⌜ now (area .exit) ≡ put (now (area .entry)) 20 (pairs n m) ⌝ }
+    requires { ⌜ (n ≤ 6) × (m ≤ 4) × (partsStart ≤ length (now area)) ⌝ }
+    ensures { λ _. ⌜ now (area .exit) ≡ put (now (area .entry)) (pairStart 0) (pairs n m) ⌝ }
 {
-    put_u16(area, 20, 28);
-    put_u16(area, 22, 4 * n);
-    put_u16(area, 24, 28 + 4 * n);
-    put_u16(area, 26, 1 + 4 * m);
-}
-
-// The state's part from byte 28 on, and the readings' part behind it.
-pub(crate) fn put_parts(n: usize, m: usize, state: [i32; 6], y: Readings, area: &mut [u8])
-    requires { ⌜ (n ≤ 6) × (m ≤ 4) × (69 ≤ length (now area)) ⌝ }
-    ensures { λ _. ⌜ now (area .exit) ≡ put (now (area .entry)) 28 (valuesBytes (take n state) ++ (marksByte y ∷ []) ++ valuesBytes (take m (y .values))) ⌝ }
-{
-    put_values(&state[0..n], area, 28);
-    let at = 28 + 4 * n;
-    put_byte(area, at, marks_byte(y));
-    let values = y.values;
-    put_values(&values[0..m], area, at + 1);
+    let states = state_length(n);
+    put_u16(area, STATE_OFFSET, PARTS_START);
+    put_u16(area, STATE_LENGTH, states);
+    put_u16(area, READINGS_OFFSET, PARTS_START + states);
+    put_u16(area, READINGS_LENGTH, readings_length(m));
 }

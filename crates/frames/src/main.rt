@@ -78,7 +78,7 @@ fn damaged() {
 }
 
 fn to_69(n: usize, frame: Frame) -> Written {
-    let mut area = [0u8; 69];
+    let mut area = [0u8; frame::lengths::LONGEST_FRAME];
     frame::write(n, 2, frame, &mut area)
 }
 

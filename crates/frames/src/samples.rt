@@ -1,5 +1,10 @@
 // The frames that the program writes: 4 states and 2 readings, of which reading 0 is absent.
+use estimate::Estimate;
 use frame::Frame;
+use frame::kinds::ACK;
+use frame::kinds::DECIDE;
+use frame::kinds::ESTIMATE;
+use frame::kinds::PROPOSE;
 use readings::Readings;
 
 fn second_present() -> Readings {
@@ -17,36 +22,40 @@ fn with_parts(kind: u8, base_view: u32, base_period: u32, readings: Readings) ->
         view: 5,
         base_view,
         base_period,
-        state: [1i32, -1, -2147483648, 2147483647, 0, 0],
-        readings,
+        estimate: Estimate {
+            state: [1i32, -1, -2147483648, 2147483647, 0, 0],
+            readings,
+        },
     }
 }
 
 pub(crate) fn propose() -> Frame {
-    with_parts(1, 5, 258, second_present())
+    with_parts(PROPOSE, 5, 258, second_present())
 }
 
 pub(crate) fn decide() -> Frame {
-    with_parts(3, 5, 258, second_present())
+    with_parts(DECIDE, 5, 258, second_present())
 }
 
 pub(crate) fn estimate() -> Frame {
-    with_parts(4, 4, 257, second_present())
+    with_parts(ESTIMATE, 4, 257, second_present())
 }
 
-// The Ack of box 2, period 1, view 0. An Ack's state and readings are not looked at.
+// The Ack of box 2, period 1, view 0. An Ack's estimate is not looked at.
 pub(crate) fn ack() -> Frame {
     Frame {
-        kind: 2,
+        kind: ACK,
         sender: 2,
         period: 1,
         view: 0,
         base_view: 0,
         base_period: 0,
-        state: [9i32; 6],
-        readings: Readings {
-            present: [true; 4],
-            values: [9i32; 4],
+        estimate: Estimate {
+            state: [9i32; 6],
+            readings: Readings {
+                present: [true; 4],
+                values: [9i32; 4],
+            },
         },
     }
 }
@@ -61,7 +70,7 @@ pub(crate) fn stray_mark() -> Frame {
         present: [false, true, true, false],
         values: [0i32, -2, 0, 0],
     };
-    with_parts(1, 5, 258, readings)
+    with_parts(PROPOSE, 5, 258, readings)
 }
 
 pub(crate) fn absent_value() -> Frame {
@@ -69,5 +78,5 @@ pub(crate) fn absent_value() -> Frame {
         present: [false, true, false, false],
         values: [1i32, -2, 0, 0],
     };
-    with_parts(1, 5, 258, readings)
+    with_parts(PROPOSE, 5, 258, readings)
 }

@@ -1,5 +1,5 @@
 -- The replica's calls show the protocol's steps, which is what the theorem of `scram` asks of an implementation. Assumes nothing.
-use mathlib.Core.Path.{_≡_, refl, sym, ap, _∙_, subst}
+use mathlib.Core.Path.{_≡_, refl, sym, ap, subst}
 use mathlib.Core.Logic.{_⊎_, inl, inr}
 use mathlib.Core.Bool.{Bool, true, false}
 use mathlib.Core.List.{List}
@@ -10,122 +10,119 @@ use borrow.Author.Tests.{eqb-true, eqb-false}
 use native.Mathlib.Omega.{arith}
 use lib.ListN.{length}
 use lib.IntN.{ℤ}
+use Rattle.lists.specs.I32.{AllI32}
 use Rattle.readings.specs.declared.Readings.{Readings}
-use Rattle.readings.specs.Readings.{normalised, strayMark}
-use Rattle.scram.specs.Replica.{Group, Message, Command, Outcome}
-use Rattle.scram.specs.Replica as Scram
-use Rattle.scram.specs.Events.{tick, giveUp, arrive, arrival}
-use Rattle.scram.specs.Demand3.{Result}
-use Rattle.scram.specs.Shown.{Still, Sent, Commanded, Does, Shown}
+use Rattle.readings.specs.Readings.{strayMark}
+use Rattle.scram.specs.Held.{Group, Message, Command, Input, Tick, Arrival, GiveUp}
+use Rattle.scram.specs.Events.{arrival}
+use Rattle.scram.specs.History.{Result}
+use Rattle.scram.specs.Shown.{Still, inBytes, outcome, Arrives, Sent, Commanded, Does, Shown}
 use Rattle.law.specs.declared.Settings as Law
 use Rattle.law.specs.Settings.{refusal}
-use Rattle.frame.specs.Fields.{AllI32}
-use Rattle.replica.specs.declared.Settings.{Settings}
+use Rattle.replica.specs.declared.Held.{Held}
 use Rattle.replica.specs.declared.Replica.{Replica}
-use Rattle.replica.specs.Settings.{settingsRefusal, lawOf, groupOf}
-use Rattle.replica.specs.Held.{held, replicaOf}
+use Rattle.replica.specs.Settings.{settingsRefusal, lawOf, memberOf, groupOf}
+use Rattle.replica.specs.Held.{heldIn}
 use Rattle.replica.specs.Frames.{sentBytes, issuedBytes}
-use Rattle.replica.specs.Calls.{checked, stepRefusal, tickOutcome, giveUpOutcome, arriveOutcome}
+use Rattle.replica.specs.Calls.{Outcomes, checked, stepRefusal, tickOutcome, giveUpOutcome, arriveOutcome}
 use Rattle.replica.proofs.Accepted.{accepted}
 use Rattle.replica.proofs.Calls.{checked-refused, checked-done, ready}
-use Rattle.group.specs.Group.{Handed, Areas, resultOf, settingsOf, group}
+use Rattle.group.specs.Group.{Handed, Areas, outcomeOf, resultOf, settingsOf, group}
 use Rattle.group.proofs.Typed.{Typed, Carried, CarriedSent, Keeps, fresh-typed, row-ok, tick-keeps, giveUp-keeps, arrive-keeps}
 use Rattle.group.proofs.Reread.{found-sent}
 
-module _ (N : ℕ) (law : Law.Settings) (start : AllI32 (law .start)) (e : settingsRefusal (settingsOf N law 1) ≡ 0) where
-  refuses : refusal law ≡ 0
-  refuses = accepted (settingsOf N law 1) e .law
-
+module _ (N : ℕ) (law : Law.Settings) where
   -- a replica of box i has the group's settings with its own number, and fields within their types
-  abbrev pub Kept : ℕ → Replica → Type 0
-  Kept i c = (c ≡ replicaOf (settingsOf N law i) (held c)) × Typed law (held c)
+  pub record Kept (i : ℕ) (c : Replica) : Type 0 where
+    pub settings : c .settings ≡ settingsOf N law i
+    pub typed : Typed law (heldIn (c .held))
 
-  -- what the calls give, of an outcome
-  abbrev Steps : ℕ → Outcome (List ℤ) Readings → Result Replica → Type 0
-  Steps i o r = Does (group N law) Kept (Carried law) i o r
-
-  -- a step that keeps to the types is shown by its result
-  does : (i : ℕ) (o : Outcome (List ℤ) Readings) → Keeps law o → Steps i o (resultOf (settingsOf N law i) o)
-  does i o k = record {
-    kept = (refl, k .typed);
-    held = refl;
-    refused = refl;
-    frame = frame (o .sent) (k .sent);
-    command = command (o .command);
-  }
-    where
-      frame : (m : Option (Message (List ℤ) Readings)) → CarriedSent law m → Sent (group N law) Kept (Carried law) m (sentBytes (settingsOf N law i) m)
-      frame none c = refl
-      frame (some m) c = (refl, c)
-
-      command : (c : Option (Command (List ℤ))) → Commanded (group N law) Kept (Carried law) c (issuedBytes (settingsOf N law i) c)
-      command none = refl
-      command (some c) = refl
-
-  -- a call whose settings or areas are refused does nothing
-  module _ (i : ℕ) (h : Scram.Replica (List ℤ) Readings) (f c : ℕ) where
-    abbrev r : Replica
-    r = replicaOf (settingsOf N law i) h
-
-    still : (o : Outcome (List ℤ) Readings) → (stepRefusal r f c ≡ 0 → ⊥) → Still r (resultOf (settingsOf N law i) (checked r f c o))
-    still o n = subst (λ x. Still r (resultOf (settingsOf N law i) x)) (checked-refused r f c o n) (record { box = refl; refused = refl; frame = refl; command = refl })
-
-    -- a call is refused so, or has a number that a frame can carry and goes on to the step
-    checked-does : (o p : Outcome (List ℤ) Readings) → (i < 256 → (p ≡ o) × Keeps law o)
-        → Steps i o (resultOf (settingsOf N law i) (checked r f c p)) ⊎ Still r (resultOf (settingsOf N law i) (checked r f c p))
-    checked-does o p k = by (eqb (stepRefusal r f c) 0) refl
-      where
-        by : (b : Bool) → eqb (stepRefusal r f c) 0 ≡ b
-            → Steps i o (resultOf (settingsOf N law i) (checked r f c p)) ⊎ Still r (resultOf (settingsOf N law i) (checked r f c p))
-        by false n = inr (still p (eqb-false (stepRefusal r f c) 0 n))
-        by true t =
-            let z = eqb-true (stepRefusal r f c) 0 t in
-            let g = accepted (settingsOf N law i) (ready r f c z .settings) .group in
-            let (q, keeps) = k (omega (arith, g .ownN, g .N9)) in
-            inl (subst (λ x. Steps i o (resultOf (settingsOf N law i) x)) (sym q ∙ checked-done r f c p z) (does i o keeps))
-
-  -- ---- the calls
-
-  abbrev L : Scram.Law (List ℤ) Readings
-  L = lawOf (settingsOf N law 1)
-
+  -- all boxes have one group
   abbrev G : Group
-  G = groupOf (settingsOf N law 1)
+  G = groupOf (memberOf (settingsOf N law 1))
 
-  ticks : (i : ℕ) (h : Scram.Replica (List ℤ) Readings) (y : Handed) (a : Areas) → Typed law h
-      → Steps i (tick L G i h (strayMark (law .m) (y .readings)) (normalised (law .m) (y .readings))) (group N law .tick (replicaOf (settingsOf N law i) h) y a)
-      ⊎ Still (replicaOf (settingsOf N law i) h) (group N law .tick (replicaOf (settingsOf N law i) h) y a)
-  unfolding tickOutcome
-  ticks i h y a t =
-      checked-does i h (length (a .frame)) (length (a .command)) _ _
-      (λ place. (refl, tick-keeps law refuses N i place G h (strayMark (law .m) (y .readings)) (normalised (law .m) (y .readings)) t (row-ok law refuses (y .readings) (y .i32))))
+  module _ (i : ℕ) where
+    -- a result does what the protocol's step does
+    abbrev Steps : Outcomes → Result Replica → Type 0
+    Steps o r = Does (group N law) Kept (Carried law) i o r
 
-  givesUp : (i : ℕ) (h : Scram.Replica (List ℤ) Readings) (a : Areas) → Typed law h
-      → Steps i (giveUp L G i h) (group N law .giveUp (replicaOf (settingsOf N law i) h) a)
-      ⊎ Still (replicaOf (settingsOf N law i) h) (group N law .giveUp (replicaOf (settingsOf N law i) h) a)
-  unfolding giveUpOutcome
-  givesUp i h a t =
-      checked-does i h (length (a .frame)) (length (a .command)) _ _ (λ place. (refl, giveUp-keeps law refuses N i place G h t))
+    -- a call that gives p does what the protocol's step o does, or does nothing and is refused
+    abbrev Shows : Replica → Outcomes → Outcomes → Type 0
+    Shows c o p = Steps o (resultOf (c .settings) p) ⊎ Still c (resultOf (c .settings) p)
 
-  arrives : (i : ℕ) (h : Scram.Replica (List ℤ) Readings) (m : Message (List ℤ) Readings) (a : Areas) → Typed law h → Carried law m
-      → Steps i (arrive L G i h m) (group N law .arrive (replicaOf (settingsOf N law i) h) (group N law .frameBytes m) a)
-      ⊎ Still (replicaOf (settingsOf N law i) h) (group N law .arrive (replicaOf (settingsOf N law i) h) (group N law .frameBytes m) a)
-  unfolding arriveOutcome arrival
-  arrives i h m a t c =
-      checked-does i h (length (a .frame)) (length (a .command)) _ _
-      (λ place. (ap (arrival L G i h) (found-sent (settingsOf N law i) refuses m c), arrive-keeps law refuses N i place G h m t c))
+    -- a step that keeps to the types is shown by its result
+    does : (o : Outcomes) → Keeps law o → Steps o (resultOf (settingsOf N law i) o)
+    does o k = record {
+      kept = record { settings = refl; typed = k .typed };
+      held = refl;
+      refused = refl;
+      frame = frame (o .sent) (k .sent);
+      command = command (o .command);
+    }
+      where
+        frame : (m : Option (Message (List ℤ) Readings)) → CarriedSent law m → Sent (group N law) (Carried law) m (sentBytes (law .n) (law .m) m)
+        frame none c = refl
+        frame (some m) c = (refl, c)
 
-  pub shown : Shown (group N law) Kept (Carried law) L G
-  shown = record {
-    freshKept = λ i. (refl, fresh-typed law refuses N i start);
-    freshHeld = λ i. refl;
-    ticks =
-        λ i c y a k. subst
-        (λ c. Steps i (tick L G i (held c) (strayMark (law .m) (y .readings)) (normalised (law .m) (y .readings))) (group N law .tick c y a)
-        ⊎ Still c (group N law .tick c y a)) (sym (k .0)) (ticks i (held c) y a (k .1));
-    givesUp = λ i c a k. subst (λ c. Steps i (giveUp L G i (held c)) (group N law .giveUp c a) ⊎ Still c (group N law .giveUp c a)) (sym (k .0)) (givesUp i (held c) a (k .1));
-    arrives =
-        λ i c m a k w. subst
-        (λ c. Steps i (arrive L G i (held c) m) (group N law .arrive c (group N law .frameBytes m) a)
-        ⊎ Still c (group N law .arrive c (group N law .frameBytes m) a)) (sym (k .0)) (arrives i (held c) m a (k .1) w);
-  }
+        command : (c : Option (Command (List ℤ))) → Commanded (group N law) c (issuedBytes (law .p) c)
+        command none = refl
+        command (some c) = refl
+
+    module _ (h : Held) (a : Areas) where
+      abbrev r : Replica
+      r = record { settings = settingsOf N law i; held = h }
+
+      abbrev behindChecks : Outcomes → Outcomes
+      behindChecks o = checked r (length (a .frame)) (length (a .command)) o
+
+      -- a call that is not refused for its settings or areas goes on to the step, of a box whose number a frame can carry
+      checked-shows : (o : Outcomes) → (i < 256 → Keeps law o) → Shows r o (behindChecks o)
+      checked-shows o keeps = by (eqb number 0) refl
+        where
+          number : ℕ
+          number = stepRefusal (r .settings) (length (a .frame)) (length (a .command))
+
+          by : (b : Bool) → eqb number 0 ≡ b → Shows r o (behindChecks o)
+          by false n =
+              inr (subst (λ p. Still r (resultOf (r .settings) p)) (checked-refused r (length (a .frame)) (length (a .command)) o (eqb-false number 0 n))
+              (record { box = refl; refused = refl; frame = refl; command = refl }))
+          by true t =
+              let z = eqb-true number 0 t in
+              let g = accepted (r .settings) (ready (r .settings) (length (a .frame)) (length (a .command)) z .settings) .group in
+              inl (subst (λ p. Steps o (resultOf (r .settings) p)) (checked-done r (length (a .frame)) (length (a .command)) o z)
+              (does o (keeps (omega (arith, g .ownN, g .N9)))))
+
+    -- ---- the protocol's step for each input
+
+    abbrev stepOf : Held → Input Handed (Message (List ℤ) Readings) → Outcomes
+    stepOf h x = outcome (group N law) (lawOf law) G i (heldIn h) x
+
+    module _ (refuses : refusal law ≡ 0) (h : Held) where
+      -- it keeps to the types
+      keeps : (x : Input Handed (Message (List ℤ) Readings)) → Typed law (heldIn h) → Arrives (group N law) (Carried law) x → i < 256
+          → Keeps law (stepOf h x)
+      keeps (Tick y) t w place = tick-keeps law refuses G i place (heldIn h) (strayMark (law .m) (y .readings)) _ t (row-ok law (y .readings) (y .i32))
+      keeps (Arrival m) t w place = arrive-keeps law refuses G i place (heldIn h) m t w
+      keeps GiveUp t w place = giveUp-keeps law refuses G i place (heldIn h) t
+
+      -- the call is this step behind the checks; what arrives is read as the message that was sent
+      same : (x : Input Handed (Message (List ℤ) Readings)) (a : Areas) → Arrives (group N law) (Carried law) x
+          → behindChecks h a (stepOf h x) ≡ outcomeOf (r h a) (inBytes (group N law) x) a
+      unfolding tickOutcome giveUpOutcome arriveOutcome arrival
+      same (Tick y) a w = refl
+      same (Arrival m) a w = ap (λ found. behindChecks h a (arrival (lawOf law) G i (heldIn h) found)) (sym (found-sent law refuses m w))
+      same GiveUp a w = refl
+
+  module _ (start : AllI32 (law .start)) (e : settingsRefusal (settingsOf N law 1) ≡ 0) where
+    refuses : refusal law ≡ 0
+    refuses = accepted (settingsOf N law 1) e .law
+
+    calls : (i : ℕ) (c : Replica) (x : Input Handed (Message (List ℤ) Readings)) (a : Areas) → Kept i c → Arrives (group N law) (Carried law) x
+        → Shows i c (stepOf i (c .held) x) (outcomeOf c (inBytes (group N law) x) a)
+    calls i c x a k w =
+        subst (λ c. Shows i c (stepOf i (c .held) x) (outcomeOf c (inBytes (group N law) x) a)) (λ j. record { settings = sym (k .settings) j; held = c .held })
+        (subst (Shows i (r i (c .held) a) (stepOf i (c .held) x)) (same i refuses (c .held) x a w)
+        (checked-shows i (c .held) a (stepOf i (c .held) x) (keeps i refuses (c .held) x (k .typed) w)))
+
+    pub shown : Shown (group N law) Kept (Carried law) (lawOf law) G
+    shown = record { freshKept = λ i. record { settings = refl; typed = fresh-typed law start }; freshHeld = λ i. refl; calls = calls }

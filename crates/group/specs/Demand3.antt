@@ -3,9 +3,10 @@
 use Prim.Native.Nat.{ℕ}
 use mathlib.Core.Path.{_≡_}
 use mathlib.Core.List.{List}
-use Rattle.scram.specs.Demand3.{Entry, Demand3}
+use Rattle.lists.specs.I32.{AllI32}
+use Rattle.scram.specs.History.{Entry}
+use Rattle.scram.specs.Demand3.{Demand3}
 use Rattle.law.specs.declared.Settings as Law
-use Rattle.frame.specs.Fields.{AllI32}
 use Rattle.replica.specs.Settings.{settingsRefusal, lawOf}
 use Rattle.group.specs.Group.{Handed, Areas, settingsOf, group}
 
@@ -13,4 +14,4 @@ use Rattle.group.specs.Group.{Handed, Areas, settingsOf, group}
 abbrev pub DemandThree : Type 0
 DemandThree =
     (N : ℕ) (law : Law.Settings) → AllI32 (law .start) → settingsRefusal (settingsOf N law 1) ≡ 0
-    → (h : List (Entry Handed Areas)) → Demand3 (group N law) (lawOf (settingsOf N law 1)) h
+    → (h : List (Entry Handed Areas)) → Demand3 (group N law) (lawOf law) h

@@ -5,19 +5,18 @@ use mathlib.Core.List.{List}
 use mathlib.Core.Option.{some}
 use lib.ListN.{length}
 use lib.IntN.{ℤ}
+use Rattle.lists.specs.I32.{AllI32}
 use Rattle.readings.specs.declared.Readings.{Readings}
 use Rattle.readings.specs.Readings.{normalised, strayMark}
-use Rattle.scram.specs.Replica.{Outcome, fresh}
-use Rattle.scram.specs.Demand3.{Result, System}
+use Rattle.scram.specs.Held.{Input, Tick, Arrival, GiveUp}
+use Rattle.scram.specs.History.{Result, System}
 use Rattle.scram.specs.Shown.{isRefused}
 use Rattle.law.specs.declared.Settings as Law
-use Rattle.frame.specs.Fields.{AllI32}
 use Rattle.replica.specs.declared.Settings.{Settings}
 use Rattle.replica.specs.declared.Replica.{Replica}
-use Rattle.replica.specs.Settings.{lawOf}
-use Rattle.replica.specs.Held.{held, replicaOf}
+use Rattle.replica.specs.Held.{heldIn, heldOf}
 use Rattle.replica.specs.Frames.{sentBytes, issuedBytes}
-use Rattle.replica.specs.Calls.{tickOutcome, giveUpOutcome, arriveOutcome}
+use Rattle.replica.specs.Calls.{Outcomes, tickOutcome, giveUpOutcome, arriveOutcome, freshOf}
 
 -- readings handed to a tick: any value of the type `Readings`, which has four marks and four i32 values
 pub record Handed : Type 0 where
@@ -31,13 +30,19 @@ pub record Areas : Type 0 where
   pub frame : List ℕ
   pub command : List ℕ
 
+-- what the call for an input does
+abbrev pub outcomeOf : Replica → Input Handed (List ℕ) → Areas → Outcomes
+outcomeOf r (Tick y) a = tickOutcome r (y .readings) (length (a .frame)) (length (a .command))
+outcomeOf r (Arrival bytes) a = arriveOutcome r bytes (length (a .frame)) (length (a .command))
+outcomeOf r GiveUp a = giveUpOutcome r (length (a .frame)) (length (a .command))
+
 -- what a call gives back: the replica, whether it was refused, and the bytes that it wrote to each area
-abbrev pub resultOf : Settings → Outcome (List ℤ) Readings → Result Replica
+abbrev pub resultOf : Settings → Outcomes → Result Replica
 resultOf s o = record {
-  box = replicaOf s (o .replica);
+  box = record { settings = s; held = heldOf (o .held) };
   refused = isRefused (o .answer);
-  frame = sentBytes s (o .sent);
-  command = issuedBytes s (o .command);
+  frame = sentBytes (s .law .n) (s .law .m) (o .sent);
+  command = issuedBytes (s .law .p) (o .command);
 }
 
 module _ (N : ℕ) (law : Law.Settings) where
@@ -45,19 +50,17 @@ module _ (N : ℕ) (law : Law.Settings) where
   abbrev pub settingsOf : ℕ → Settings
   settingsOf own = record { boxes = N; own = own; law = law }
 
-  -- N boxes under this law. The bytes of frames and commands depend on the law alone, and are those of box 1.
-  abbrev pub group : System (List ℤ) Readings
+  -- N boxes under this law
+  abbrev pub group : System (List ℤ) Readings (List ℤ)
   group = record {
     Box = Replica;
     Handed = Handed;
     Areas = Areas;
-    fresh = λ i. replicaOf (settingsOf i) (fresh (lawOf (settingsOf i)));
-    tick = λ r y a. resultOf (r .settings) (tickOutcome r (y .readings) (length (a .frame)) (length (a .command)));
-    giveUp = λ r a. resultOf (r .settings) (giveUpOutcome r (length (a .frame)) (length (a .command)));
-    arrive = λ r bytes a. resultOf (r .settings) (arriveOutcome r bytes (length (a .frame)) (length (a .command)));
-    held = held;
+    fresh = λ i. freshOf (settingsOf i);
+    call = λ r e a. resultOf (r .settings) (outcomeOf r e a);
+    held = λ r. heldIn (r .held);
     row = λ y. normalised (law .m) (y .readings);
     stray = λ y. strayMark (law .m) (y .readings);
-    frameBytes = λ m. sentBytes (settingsOf 1) (some m);
-    commandBytes = λ c. issuedBytes (settingsOf 1) (some c);
+    frameBytes = λ m. sentBytes (law .n) (law .m) (some m);
+    commandBytes = λ c. issuedBytes (law .p) (some c);
   }

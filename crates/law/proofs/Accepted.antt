@@ -1,19 +1,14 @@
 -- What is known of settings that are not refused: the ranges of n, m and p, and of the coefficients. Assumes nothing.
-use mathlib.Core.Path.{_≡_, refl, sym, ap, _∙_}
-use mathlib.Core.Bool.{Bool, true, false, not, cond, _&&_}
+use mathlib.Core.Path.{_≡_}
+use mathlib.Core.Bool.{true, _&&_}
 use Prim.Native.Nat.{ℕ, _≤_}
 use native.Mathlib.Omega.{arith}
-use lib.Dec.{leb, eqb}
-use borrow.Author.Tests.{leb-true}
+use lib.Dec.{leb}
+use borrow.Author.Tests.{leb-true, not-false}
+use Rattle.lists.proofs.Booleans.{both}
+use Rattle.lists.proofs.Refusals.{passed}
 use Rattle.law.specs.declared.Settings.{Settings}
-use Rattle.law.specs.declared.Answer.{Answer}
-use Rattle.law.specs.Answer.{number}
-use Rattle.law.specs.Settings.{A, L, C, K, lower, upper, oneTo, sizesInRange, tableInRange, coefficientsInRange, limitsInOrder, refusal, stands}
-use Rattle.law.proofs.Booleans.{and-left, and-right}
-
--- what `is_done` says of the answer of `check` holds of the settings
-pub answered : (s : Settings) (answer : Answer) (done : Bool) → number answer ≡ refusal s → done ≡ eqb (number answer) 0 → stands s ≡ done
-answered s answer done h d = ap (λ (k : ℕ). eqb k 0) (sym h) ∙ sym d
+use Rattle.law.specs.Settings.{A, L, C, K, oneTo, sizesInRange, tableInRange, coefficientsInRange, refusals, refusal}
 
 pub record Sizes (n m p : ℕ) : Type 0 where
   pub n1 : 1 ≤ n
@@ -26,17 +21,18 @@ pub record Sizes (n m p : ℕ) : Type 0 where
 pub sizes : (n m p : ℕ) → sizesInRange n m p ≡ true → Sizes n m p
 unfolding sizesInRange
 sizes n m p h =
-    let nm = and-left (oneTo 6 n && oneTo 4 m) (oneTo 4 p) h in
-    let hn = and-left (oneTo 6 n) (oneTo 4 m) nm in
-    let hm = and-right (oneTo 6 n) (oneTo 4 m) nm in
-    let hp = and-right (oneTo 6 n && oneTo 4 m) (oneTo 4 p) h in
+    let nmp = both (oneTo 6 n && oneTo 4 m) (oneTo 4 p) h in
+    let nm = both (oneTo 6 n) (oneTo 4 m) (nmp .0) in
+    let hn = both (leb 1 n) (leb n 6) (nm .0) in
+    let hm = both (leb 1 m) (leb m 4) (nm .1) in
+    let hp = both (leb 1 p) (leb p 4) (nmp .1) in
     record {
-      n1 = leb-true 1 n (and-left (leb 1 n) (leb n 6) hn);
-      n6 = leb-true n 6 (and-right (leb 1 n) (leb n 6) hn);
-      m1 = leb-true 1 m (and-left (leb 1 m) (leb m 4) hm);
-      m4 = leb-true m 4 (and-right (leb 1 m) (leb m 4) hm);
-      p1 = leb-true 1 p (and-left (leb 1 p) (leb p 4) hp);
-      p4 = leb-true p 4 (and-right (leb 1 p) (leb p 4) hp);
+      n1 = leb-true 1 n (hn .0);
+      n6 = leb-true n 6 (hn .1);
+      m1 = leb-true 1 m (hm .0);
+      m4 = leb-true m 4 (hm .1);
+      p1 = leb-true 1 p (hp .0);
+      p4 = leb-true p 4 (hp .1);
     }
 
 pub record Accepted (s : Settings) : Type 0 where
@@ -46,26 +42,22 @@ pub record Accepted (s : Settings) : Type 0 where
   pub c : tableInRange (C s) (s .m) (s .n) ≡ true
   pub k : tableInRange (K s) (s .p) (s .n) ≡ true
 
-none : (a b c : Bool) → cond {A = ℕ} (not a) 2 (cond (not b) 3 (cond (not c) 4 0)) ≡ 0 → (a ≡ true) × (b ≡ true)
-none true true c h = (refl, refl)
-none true false c h = absurd (omega arith)
-none false b c h = absurd (omega arith)
-
 pub accepted : (s : Settings) → refusal s ≡ 0 → Accepted s
-unfolding refusal coefficientsInRange
+unfolding refusal refusals coefficientsInRange
 accepted s h =
-    let tables = coefficientsInRange (A s) (L s) (C s) (K s) (s .n) (s .m) (s .p) in
-    let passed = none (sizesInRange (s .n) (s .m) (s .p)) tables (limitsInOrder (lower s) (upper s) (s .p)) h in
     let ta = tableInRange (A s) (s .n) (s .n) in
     let tl = tableInRange (L s) (s .n) (s .m) in
     let tc = tableInRange (C s) (s .m) (s .n) in
     let tk = tableInRange (K s) (s .p) (s .n) in
-    let alc = and-left (ta && tl && tc) tk (passed .1) in
-    let al = and-left (ta && tl) tc alc in
+    let by2 = passed 2 _ _ (omega arith) h in
+    let by3 = passed 3 _ _ (omega arith) (by2 .1) in
+    let alck = both (ta && tl && tc) tk (not-false _ (by3 .0)) in
+    let alc = both (ta && tl) tc (alck .0) in
+    let al = both ta tl (alc .0) in
     record {
-      sizes = sizes (s .n) (s .m) (s .p) (passed .0);
-      a = and-left ta tl al;
-      l = and-right ta tl al;
-      c = and-right (ta && tl) tc alc;
-      k = and-right (ta && tl && tc) tk (passed .1);
+      sizes = sizes (s .n) (s .m) (s .p) (not-false _ (by2 .0));
+      a = al .0;
+      l = al .1;
+      c = alc .1;
+      k = alck .1;
     }

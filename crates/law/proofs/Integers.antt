@@ -1,6 +1,6 @@
 -- Laws of the integers: sizes of sums and products, and when a number fits a signed width. Assumes nothing.
 use mathlib.Core.Path.{_≡_, refl, sym, subst}
-use mathlib.Core.Bool.{true, false, cond}
+use mathlib.Core.Bool.{Bool, true, false, cond}
 use Prim.Native.Nat.{ℕ, zero, suc, _+_, _*_, _-_, _^_, _≤_, _<_}
 use native.Mathlib.Nat as NatL
 use native.Mathlib.Omega.{arith}
@@ -11,14 +11,19 @@ use borrow.Author.Tests.{ltb-true, ltb-false, leb-true}
 use mir.Syntax.{Width, w32, w64}
 use mir.Val.{SFits, hbits, toZ, ofZ}
 use mir.Facts.{toZ-ofZ, sfits-widen}
+use Rattle.lists.specs.Choice.{pick}
+use Rattle.lists.proofs.Booleans.{both}
+use Rattle.lists.proofs.Choice.{pick-holds}
 use Rattle.law.specs.Fixed.{limited, clamp, largestProduct}
 use Rattle.law.specs.Settings.{inRange}
-use Rattle.law.proofs.Booleans.{and-left, cond-holds}
 
+-- `subℕ` is a `cond` of the library
 difference-size : (a b : ℕ) → natAbs (subℕ a b) ≤ a + b
-difference-size a b =
-    cond-holds (λ (z : ℤ). natAbs z ≤ a + b) (ltb a b) (negsuc (b - suc a)) (pos (a - b))
-    (λ t. omega (arith, ltb-true a b t)) (λ t. omega (arith, ltb-false a b t))
+difference-size a b = by (ltb a b) refl
+  where
+    by : (t : Bool) → ltb a b ≡ t → natAbs (cond t (negsuc (b - suc a)) (pos (a - b))) ≤ a + b
+    by true e = omega (arith, ltb-true a b e)
+    by false e = omega (arith, ltb-false a b e)
 
 negative-size : (n : ℕ) → natAbs (negℤ (pos n)) ≡ n
 negative-size zero = refl
@@ -45,7 +50,7 @@ pub small-fits : (w : Width) (z : ℤ) → natAbs z < 2 ^ hbits w → SFits w z
 small-fits w (pos n) h = record { sfits = h }
 small-fits w (negsuc n) h = record { sfits = omega arith }
 
-fits-size : {w : Width} {z : ℤ} → SFits w z → natAbs z ≤ 2 ^ hbits w
+pub fits-size : {w : Width} {z : ℤ} → SFits w z → natAbs z ≤ 2 ^ hbits w
 fits-size {w} {z = pos n} h = NatL.le-of-lt (h .sfits)
 fits-size {w} {z = negsuc n} h = h .sfits
 
@@ -59,7 +64,7 @@ widened f = subst (SFits w64) (sym (toZ-ofZ f)) (wide f)
 coefficient-size : (c : ℤ) → inRange c ≡ true → natAbs c ≤ 16777216
 unfolding inRange
 coefficient-size (pos n) h = leb-true n 16777216 h
-coefficient-size (negsuc n) h = omega (arith, leb-true n 16777215 (and-left (leb n 16777215) true h))
+coefficient-size (negsuc n) h = omega (arith, leb-true n 16777215 (both (leb n 16777215) true h .0))
 
 -- the largest product of a coefficient and an i32
 pub term-size : (c x : ℤ) → inRange c ≡ true → SFits w32 x → natAbs (c *ℤ x) ≤ largestProduct
@@ -87,8 +92,8 @@ between-fits (negsuc n) (negsuc k) upper fl fu l h = record { sfits = let f = fl
 pub limited-fits : (lower upper z : ℤ) → SFits w32 lower → SFits w32 upper → SFits w32 (limited lower upper z)
 unfolding limited
 limited-fits lower upper z fl fu =
-    cond-holds (SFits w32) (ltZ z lower) lower (cond (ltZ upper z) upper z) (λ _. fl)
-    (λ l. cond-holds (SFits w32) (ltZ upper z) upper z (λ _. fu) (λ h. between-fits z lower upper fl fu l h))
+    pick-holds (SFits w32) (ltZ z lower) lower (pick (ltZ upper z) upper z) (λ _. fl)
+    (λ l. pick-holds (SFits w32) (ltZ upper z) upper z (λ _. fu) (λ h. between-fits z lower upper fl fu l h))
 
 least-fits : SFits w32 (negsuc 2147483647)
 least-fits = record { sfits = lit< tt }

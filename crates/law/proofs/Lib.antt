@@ -1,7 +1,8 @@
-mod Booleans
 mod Integers
+mod Offsets
 mod Division
 mod Sums
 mod Formulas
 pub mod Accepted
 pub mod Laws
+pub mod Lent

@@ -1,8 +1,8 @@
 -- Fixed point: the numbers are whole, and a coefficient counts units of 1/65536. Sums are over the integers of mathematics, where nothing overflows.
 use Prim.Native.Nat.{ℕ, zero, suc, _*_, _/_}
-use mathlib.Core.Bool.{cond}
 use lib.IntN.{ℤ, pos, negsuc, negℤ, _+ℤ_}
 use lib.Signed.{ltZ}
+use Rattle.lists.specs.Choice.{pick}
 
 -- −n
 abbrev pub minus : ℕ → ℤ
@@ -20,7 +20,7 @@ sum (suc n) f = sum n f +ℤ f n
 
 -- "brought into its own limits": the lower limit where z is below it, the upper where z is above it, else z
 unfoldable pub limited : ℤ → ℤ → ℤ → ℤ
-limited lower upper z = cond (ltZ z lower) lower (cond (ltZ upper z) upper z)
+limited lower upper z = pick (ltZ z lower) lower (pick (ltZ upper z) upper z)
 
 -- "Clamp means: into the i32 range."
 unfoldable pub clamp : ℤ → ℤ

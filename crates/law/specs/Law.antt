@@ -1,11 +1,11 @@
 -- The law, formula by formula. x is a state, y a row of readings; A, L, C and K are tables by row and column.
 use Prim.Native.Nat.{ℕ}
-use mathlib.Core.Bool.{cond}
 use mathlib.Core.List.{List}
 use lib.ListN.{replicate}
 use lib.IntN.{ℤ, pos, _+ℤ_, _-ℤ_, _*ℤ_}
 use Rattle.readings.specs.declared.Readings.{Readings}
-use Rattle.readings.specs.Places.{entry, filled}
+use Rattle.lists.specs.Choice.{pick}
+use Rattle.lists.specs.Places.{entry, filled}
 use Rattle.readings.specs.Readings.{present, value}
 use Rattle.law.specs.declared.Settings.{Settings}
 use Rattle.law.specs.Fixed.{divided, sum, limited, clamp}
@@ -14,7 +14,7 @@ use Rattle.law.specs.Settings.{A, L, C, K, lower, upper, stands}
 -- "For a present reading j: e(j) = clamp(y(j) − (sum over i of C(j,i) × x(i)) / 65536). For an absent one e(j) = 0."
 -- `value` is "A value given under an absent mark is read as 0."
 unfoldable pub e : (C : ℕ → ℕ → ℤ) (n : ℕ) (x : List ℤ) (y : Readings) (j : ℕ) → ℤ
-e C n x y j = cond (present y j) (clamp (value y j -ℤ divided (sum n (λ i. C j i *ℤ entry x i)))) (pos 0)
+e C n x y j = pick (present y j) (clamp (value y j -ℤ divided (sum n (λ i. C j i *ℤ entry x i)))) (pos 0)
 
 -- "Update: x'(i) = clamp((sum of A(i,j) × x(j) + sum of L(i,j) × e(j)) / 65536), one division for both sums."
 -- "A already carries the effect of the command", so no command stands here
@@ -27,8 +27,12 @@ command K lower upper n x j = limited (lower j) (upper j) (divided (sum n (λ i.
 
 -- the state after a period; "Places .. beyond n .. are not looked at" and come back as 0. Refused settings leave the state as it was
 unfoldable pub updated : Settings → List ℤ → Readings → List ℤ
-updated s x y = cond (stands s) (filled (pos 0) 6 (s .n) (next (A s) (L s) (s .n) (s .m) x (e (C s) (s .n) x y))) x
+updated s x y = pick (stands s) (filled (pos 0) 6 (s .n) (next (A s) (L s) (s .n) (s .m) x (e (C s) (s .n) x y))) x
 
 -- the commands of a state, and 0 in the places beyond p. Refused settings give 0 in each place
 unfoldable pub commanded : Settings → List ℤ → List ℤ
-commanded s x = cond (stands s) (filled (pos 0) 4 (s .p) (command (K s) (lower s) (upper s) (s .n) x)) (replicate 4 (pos 0))
+commanded s x = pick (stands s) (filled (pos 0) 4 (s .p) (command (K s) (lower s) (upper s) (s .n) x)) (replicate 4 (pos 0))
+
+-- "A box that decides issues the command of Update(estimate's state, estimate's readings)": x and y are the estimate's
+unfoldable pub issued : Settings → List ℤ → Readings → List ℤ
+issued s x y = commanded s (updated s x y)

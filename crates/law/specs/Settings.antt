@@ -1,12 +1,14 @@
 -- The settings of the law: the tables under document 01's names, the ranges, and refusals 2 to 4. Rows, columns and places are counted from 0.
-use Prim.Native.Nat.{ℕ, zero, suc, _+_, _*_}
-use mathlib.Core.Bool.{Bool, true, not, cond, _&&_}
-use mathlib.Core.List.{List}
+use Prim.Native.Nat.{ℕ, _+_, _*_}
+use mathlib.Core.Bool.{Bool, not, _&&_}
+use mathlib.Core.List.{List, [], _∷_}
 use lib.Dec.{leb, eqb}
 use lib.IntN.{ℤ, pos}
 use lib.ListN.{replicate}
 use lib.Signed.{leZ}
-use Rattle.readings.specs.Places.{entry}
+use Rattle.lists.specs.Below.{allBelow}
+use Rattle.lists.specs.Places.{entry}
+use Rattle.lists.specs.Refusals.{Refusal, refusal as row, firstOf}
 use Rattle.law.specs.declared.Settings.{Settings}
 use Rattle.law.specs.Fixed.{minus}
 
@@ -52,18 +54,13 @@ oneTo most size = leb 1 size && leb size most
 unfoldable pub sizesInRange : ℕ → ℕ → ℕ → Bool
 sizesInRange n m p = oneTo 6 n && oneTo 4 m && oneTo 4 p
 
--- whether each i below n passes a test
-unfoldable pub every : ℕ → (ℕ → Bool) → Bool
-every zero test = true
-every (suc n) test = every n test && test n
-
 -- "whole numbers in units of 1/65536, from −16,777,216 to 16,777,216"
 unfoldable pub inRange : ℤ → Bool
 inRange z = leZ (minus 16777216) z && leZ z (pos 16777216)
 
 -- whether the coefficients in the first rows and columns of a table are in their range
 unfoldable pub tableInRange : (ℕ → ℕ → ℤ) → ℕ → ℕ → Bool
-tableInRange table rows columns = every rows (λ i. every columns (λ j. inRange (table i j)))
+tableInRange table rows columns = allBelow rows (λ i. allBelow columns (λ j. inRange (table i j)))
 
 -- the same for the four tables: "A (n by n), L (n by m), C (m by n), K (p by n)"
 unfoldable pub coefficientsInRange : (A L C K : ℕ → ℕ → ℤ) → ℕ → ℕ → ℕ → Bool
@@ -71,15 +68,20 @@ coefficientsInRange A L C K n m p = tableInRange A n n && tableInRange L n m && 
 
 -- whether no lower limit of the first p commands is above its upper
 unfoldable pub limitsInOrder : (lower upper : ℕ → ℤ) → ℕ → Bool
-limitsInOrder lower upper p = every p (λ j. leZ (lower j) (upper j))
+limitsInOrder lower upper p = allBelow p (λ j. leZ (lower j) (upper j))
 
--- "The law's own calls refuse settings by 2 to 4 and refuse nothing else", and "the lowest number comes first":
--- 2 "n, m or p outside its range", 3 "a coefficient outside its range", 4 "a lower limit above its upper"; 0 where nothing is refused
+-- "The law's own calls refuse settings by 2 to 4 and refuse nothing else":
+-- 2 "n, m or p outside its range", 3 "a coefficient outside its range", 4 "a lower limit above its upper"
+unfoldable pub refusals : Settings → List Refusal
+refusals s =
+    row 2 (not (sizesInRange (s .n) (s .m) (s .p)))
+    ∷ row 3 (not (coefficientsInRange (A s) (L s) (C s) (K s) (s .n) (s .m) (s .p)))
+    ∷ row 4 (not (limitsInOrder (lower s) (upper s) (s .p)))
+    ∷ []
+
+-- "the lowest number comes first"; 0 where nothing is refused
 unfoldable pub refusal : Settings → ℕ
-refusal s =
-    cond (not (sizesInRange (s .n) (s .m) (s .p))) 2
-    (cond (not (coefficientsInRange (A s) (L s) (C s) (K s) (s .n) (s .m) (s .p))) 3
-    (cond (not (limitsInOrder (lower s) (upper s) (s .p))) 4 0))
+refusal s = firstOf (refusals s)
 
 -- whether nothing is refused
 abbrev pub stands : Settings → Bool

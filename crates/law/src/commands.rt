@@ -4,8 +4,9 @@ ghost use mathlib.Core.Bool.{true};
 ghost use Prim.Native.Nat.{_<_, _≤_};
 ghost use lib.ListN.{length};
 ghost use lib.IntN.{pos};
-ghost use Rattle.readings.specs.Places.{entry, filled};
-ghost use Rattle.law.specs.Settings.{cell, every, inRange, tableInRange};
+ghost use Rattle.lists.specs.Below.{allBelow};
+ghost use Rattle.lists.specs.Places.{entry, filled};
+ghost use Rattle.law.specs.Settings.{cell, inRange, tableInRange};
 ghost use Rattle.law.specs.Law.{command};
 use crate::fixed::divide;
 use crate::fixed::limit;
@@ -13,7 +14,7 @@ use crate::fixed::sum_of_products;
 
 // Command j, in its own limits.
 fn command_value(k: &[i32], low: &[i32], high: &[i32], x: &[i32], n: usize, j: usize) -> i32
-    requires { ⌜ (n ≤ 6) × (j < 4) × (24 ≤ length (now k)) × (j < length (now low)) × (j < length (now high)) × (n ≤ length (now x)) × (every n (λ i. inRange (cell (now k) 6 j i)) ≡ true) ⌝ }
+    requires { ⌜ (n ≤ 6) × (j < 4) × (24 ≤ length (now k)) × (j < length (now low)) × (j < length (now high)) × (n ≤ length (now x)) × (allBelow n (λ i. inRange (cell (now k) 6 j i)) ≡ true) ⌝ }
     ensures { λ r. ⌜ r ≡ command (cell (now (k .entry)) 6) (entry (now (low .entry))) (entry (now (high .entry))) n (now (x .entry)) j ⌝ }
 {
     let value = divide(sum_of_products(k, j * 6, x, n));

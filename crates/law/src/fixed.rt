@@ -4,9 +4,10 @@ ghost use mathlib.Core.Bool.{true};
 ghost use Prim.Native.Nat.{_+_, _*_, _≤_};
 ghost use lib.ListN.{length};
 ghost use lib.IntN.{natAbs, _+ℤ_, _*ℤ_};
-ghost use Rattle.readings.specs.Places.{entry};
+ghost use Rattle.lists.specs.Below.{allBelow};
+ghost use Rattle.lists.specs.Places.{entry};
 ghost use Rattle.law.specs.Fixed.{divided, sum, limited, clamp, largestProduct};
-ghost use Rattle.law.specs.Settings.{every, inRange};
+ghost use Rattle.law.specs.Settings.{inRange};
 
 // x / 65536 rounded toward minus infinity. `/` alone rounds toward zero, which is one too high where the remainder is below zero.
 pub(crate) fn divide(x: i64) -> i64
@@ -50,7 +51,7 @@ fn add_product(total: i64, coefficient: i32, x: i32) -> i64
 // The sum over i below n of table(at + i) × x(i). Each product has a test of its own: a loop would be vectorised, for lengths that do not occur, and
 // take twice the instructions.
 pub(crate) fn sum_of_products(table: &[i32], at: usize, x: &[i32], n: usize) -> i64
-    requires { ⌜ (n ≤ 6) × (at + n ≤ length (now table)) × (n ≤ length (now x)) × (every n (λ i. inRange (entry (now table) (at + i))) ≡ true) ⌝ }
+    requires { ⌜ (n ≤ 6) × (at + n ≤ length (now table)) × (n ≤ length (now x)) × (allBelow n (λ i. inRange (entry (now table) (at + i))) ≡ true) ⌝ }
     ensures value { λ r. ⌜ r ≡ sum n (λ i. entry (now (table .entry)) (at + i) *ℤ entry (now (x .entry)) i) ⌝ }
     ensures size { λ r. ⌜ natAbs r ≤ n * largestProduct ⌝ }
 {

@@ -1,10 +1,12 @@
 // Tests of the settings.
 ghost use mathlib.Core.Path.{_≡_};
-ghost use Prim.Native.Nat.{_+_, _*_, _≤_};
+ghost use mathlib.Core.Bool.{true};
+ghost use Prim.Native.Nat.{_+_, _*_, _≤_, _<_};
 ghost use lib.ListN.{length};
 ghost use lib.Signed.{leZ};
-ghost use Rattle.readings.specs.Places.{entry};
-ghost use Rattle.law.specs.Settings.{cell, oneTo, sizesInRange, every, inRange, tableInRange, coefficientsInRange, limitsInOrder};
+ghost use Rattle.lists.specs.Below.{allBelow};
+ghost use Rattle.lists.specs.Places.{entry};
+ghost use Rattle.law.specs.Settings.{cell, oneTo, sizesInRange, inRange, tableInRange, coefficientsInRange, limitsInOrder};
 
 fn is_one_to(most: usize, size: usize) -> bool
     ensures { λ r. ⌜ r ≡ oneTo most size ⌝ }
@@ -29,7 +31,7 @@ fn in_range(coefficient: i32) -> bool
 // Whether the coefficients table(at) to table(at + n - 1) are in their range.
 fn row_in_range(table: &[i32], at: usize, n: usize) -> bool
     requires { ⌜ at + n ≤ length (now table) ⌝ }
-    ensures { λ r. ⌜ r ≡ every n (λ j. inRange (entry (now (table .entry)) (at + j))) ⌝ }
+    ensures { λ r. ⌜ r ≡ allBelow n (λ j. inRange (entry (now (table .entry)) (at + j))) ⌝ }
 {
     let mut j = 0;
     while j < n {
@@ -56,36 +58,45 @@ fn rows_in_range(table: &[i32], stride: usize, rows: usize, columns: usize) -> b
     true
 }
 
-// Whether what stands in the first places of a table is in the range of a coefficient. The loop has no way out before its end, so that it can be
-// vectorised.
-fn places_in_range(table: &[i32], places: usize) -> bool
-    requires { ⌜ places ≤ length (now table) ⌝ }
-    ensures { λ r. ⌜ r ≡ every places (λ i. inRange (entry (now (table .entry)) i)) ⌝ }
+// How far a coefficient is above the least, modulo 2^32: below 2^25 for each in its range but the largest.
+fn offset(coefficient: i32) -> u32
+    ensures { λ r. ⌜ (r < 33554432 → inRange coefficient ≡ true) ⌝ }
 {
-    let mut all = true;
-    let mut i = 0;
-    while i < places {
-        all = all & in_range(table[i]);
-        i += 1;
+    let above = (coefficient as i64) + 16777216;
+    if above < 0 {
+        return (above + 4294967296) as u32;
     }
-    all
+    above as u32
 }
 
-// Whether the coefficients of a table are in their range. Where there are more than a few, all its places are looked at first, which takes fewer
-// instructions: only where one of them is out of range does it matter which are in use.
+// Whether what stands in the first places of a table is surely in the range of a coefficient. It is one sum and one `|` for each place, with no way out
+// before the end, so that it can be vectorised: a table with the largest coefficient is left to the exact tests.
+fn surely_in_range(table: &[i32], places: usize) -> bool
+    requires { ⌜ places ≤ length (now table) ⌝ }
+    ensures { λ r. ⌜ (r ≡ true → allBelow places (λ i. inRange (entry (now (table .entry)) i)) ≡ true) ⌝ }
+{
+    let mut offsets = 0u32;
+    let mut i = 0;
+    while i < places {
+        offsets = offsets | offset(table[i]);
+        i += 1;
+    }
+    offsets < 33554432
+}
+
+// Whether the coefficients of a table are in their range. Where all its places surely are, it does not matter which are in use.
 fn table_in_range(table: &[i32], places: usize, stride: usize, rows: usize, columns: usize) -> bool
     requires { ⌜ (rows ≤ 6) × (columns ≤ stride) × (stride ≤ 6) × (rows * stride ≤ places) × (places ≤ length (now table)) ⌝ }
     ensures { λ r. ⌜ r ≡ tableInRange (cell (now (table .entry)) stride) rows columns ⌝ }
 {
-    if 4 < rows + columns {
-        if places_in_range(table, places) {
-            return true;
-        }
+    if surely_in_range(table, places) {
+        return true;
     }
     rows_in_range(table, stride, rows, columns)
 }
 
-// Whether the coefficients of the four tables are in their range.
+// Whether the coefficients of the four tables are in their range. All places are looked at first, which takes fewer instructions: only where one of them
+// may be out of range is it asked which table has it.
 pub(crate) fn coefficients_in_range<'a>(
     a: &'a [i32],
     l: &'a [i32],
@@ -98,6 +109,13 @@ pub(crate) fn coefficients_in_range<'a>(
     requires { ⌜ (n ≤ 6) × (m ≤ 4) × (p ≤ 4) × (36 ≤ length (now a)) × (24 ≤ length (now l)) × (24 ≤ length (now c)) × (24 ≤ length (now k)) ⌝ }
     ensures { λ r. ⌜ r ≡ coefficientsInRange (cell (now (a .entry)) 6) (cell (now (l .entry)) 4) (cell (now (c .entry)) 6) (cell (now (k .entry)) 6) n m p ⌝ }
 {
+    if surely_in_range(a, 36)
+        & surely_in_range(l, 24)
+        & surely_in_range(c, 24)
+        & surely_in_range(k, 24)
+    {
+        return true;
+    }
     if !table_in_range(a, 36, 6, n, n) {
         return false;
     }

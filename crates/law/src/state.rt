@@ -4,8 +4,9 @@ ghost use mathlib.Core.Bool.{true};
 ghost use Prim.Native.Nat.{_<_, _≤_};
 ghost use lib.ListN.{length};
 ghost use lib.IntN.{pos};
-ghost use Rattle.readings.specs.Places.{entry, filled};
-ghost use Rattle.law.specs.Settings.{cell, every, inRange, tableInRange};
+ghost use Rattle.lists.specs.Below.{allBelow};
+ghost use Rattle.lists.specs.Places.{entry, filled};
+ghost use Rattle.law.specs.Settings.{cell, inRange, tableInRange};
 ghost use Rattle.law.specs.Law.{e, next};
 use crate::fixed::clamp_i32;
 use crate::fixed::divide;
@@ -14,7 +15,7 @@ use readings::Readings;
 
 // e(j), the innovation: how far a present reading is from what the state predicts.
 fn innovation(c: &[i32], x: &[i32], n: usize, readings: Readings, j: usize) -> i32
-    requires { ⌜ (n ≤ 6) × (j < 4) × (24 ≤ length (now c)) × (n ≤ length (now x)) × (every n (λ i. inRange (cell (now c) 6 j i)) ≡ true) ⌝ }
+    requires { ⌜ (n ≤ 6) × (j < 4) × (24 ≤ length (now c)) × (n ≤ length (now x)) × (allBelow n (λ i. inRange (cell (now c) 6 j i)) ≡ true) ⌝ }
     ensures { λ r. ⌜ r ≡ e (cell (now (c .entry)) 6) n (now (x .entry)) readings j ⌝ }
 {
     let present = readings.present;
@@ -43,7 +44,7 @@ pub(crate) fn innovations(c: &[i32], x: &[i32], n: usize, m: usize, readings: Re
 
 // x'(i), with one division for both sums.
 fn next_value(a: &[i32], l: &[i32], x: &[i32], e: &[i32], n: usize, m: usize, i: usize) -> i32
-    requires { ⌜ (n ≤ 6) × (m ≤ 4) × (i < 6) × (36 ≤ length (now a)) × (24 ≤ length (now l)) × (n ≤ length (now x)) × (m ≤ length (now e)) × (every n (λ j. inRange (cell (now a) 6 i j)) ≡ true) × (every m (λ j. inRange (cell (now l) 4 i j)) ≡ true) ⌝ }
+    requires { ⌜ (n ≤ 6) × (m ≤ 4) × (i < 6) × (36 ≤ length (now a)) × (24 ≤ length (now l)) × (n ≤ length (now x)) × (m ≤ length (now e)) × (allBelow n (λ j. inRange (cell (now a) 6 i j)) ≡ true) × (allBelow m (λ j. inRange (cell (now l) 4 i j)) ≡ true) ⌝ }
     ensures { λ r. ⌜ r ≡ next (cell (now (a .entry)) 6) (cell (now (l .entry)) 4) n m (now (x .entry)) (entry (now (e .entry))) i ⌝ }
 {
     let of_state = sum_of_products(a, i * 6, x, n);
@@ -70,4 +71,21 @@ pub(crate) fn next_state<'a>(
         i += 1;
     }
     state
+}
+
+// The state after one period with these readings.
+pub(crate) fn updated_state<'a>(
+    a: &'a [i32],
+    l: &'a [i32],
+    c: &'a [i32],
+    x: &[i32],
+    n: usize,
+    m: usize,
+    readings: Readings,
+) -> [i32; 6]
+    requires { ⌜ (n ≤ 6) × (m ≤ 4) × (36 ≤ length (now a)) × (24 ≤ length (now l)) × (24 ≤ length (now c)) × (n ≤ length (now x)) × (tableInRange (cell (now a) 6) n n ≡ true) × (tableInRange (cell (now l) 4) n m ≡ true) × (tableInRange (cell (now c) 6) m n ≡ true) ⌝ }
+    ensures { λ r. ⌜ r ≡ filled (pos 0) 6 n (next (cell (now (a .entry)) 6) (cell (now (l .entry)) 4) n m (now (x .entry)) (e (cell (now (c .entry)) 6) n (now (x .entry)) readings)) ⌝ }
+{
+    let e = innovations(c, x, n, m, readings);
+    next_state(a, l, x, &e, n, m)
 }

@@ -1,18 +1,17 @@
 // The law's calls on tables that a caller has by themselves, laid out as the fields of `Settings`. No table is copied.
 ghost use mathlib.Core.Path.{_≡_};
-ghost use lib.Dec.{eqb};
 ghost use Rattle.law.specs.Answer.{number};
 ghost use Rattle.law.specs.Settings.{settingsOf, refusal};
-ghost use Rattle.law.specs.Law.{updated, commanded};
+ghost use Rattle.law.specs.Law.{updated, commanded, issued};
 use crate::Answer;
 use crate::Commanded;
 use crate::Updated;
 use crate::commands::command_values;
+use crate::number_of;
 use crate::ranges::coefficients_in_range;
 use crate::ranges::limits_in_order;
 use crate::ranges::sizes_in_range;
-use crate::state::innovations;
-use crate::state::next_state;
+use crate::state::updated_state;
 use readings::Readings;
 
 // Whether settings are refused, by the lowest number that refuses them.
@@ -41,17 +40,6 @@ pub fn check<'a>(
     Answer::Done
 }
 
-fn is_done(answer: Answer) -> bool
-    ensures { λ r. ⌜ r ≡ eqb (number answer) 0 ⌝ }
-{
-    match answer {
-        Answer::Done => true,
-        Answer::Sizes => false,
-        Answer::Coefficient => false,
-        Answer::Limits => false,
-    }
-}
-
 // The state after one period with these readings.
 pub fn update<'a, 'b>(
     n: usize,
@@ -70,12 +58,11 @@ pub fn update<'a, 'b>(
     ensures state { λ r. ⌜ r .state ≡ updated (settingsOf n m p (now (a .entry)) (now (l .entry)) (now (c .entry)) (now (k .entry)) (now (low .entry)) (now (high .entry))) (now (state .entry)) readings ⌝ }
 {
     let answer = check(n, m, p, a, l, c, k, low, high);
-    if !is_done(answer) {
+    if number_of(answer) != 0 {
         let state = *state;
         return Updated { answer, state };
     }
-    let e = innovations(c, state, n, m, readings);
-    let next = next_state(a, l, state, &e, n, m);
+    let next = updated_state(a, l, c, state, n, m, readings);
     Updated {
         answer,
         state: next,
@@ -99,12 +86,41 @@ pub fn command<'a, 'b>(
     ensures values { λ r. ⌜ r .values ≡ commanded (settingsOf n m p (now (a .entry)) (now (l .entry)) (now (c .entry)) (now (k .entry)) (now (low .entry)) (now (high .entry))) (now (state .entry)) ⌝ }
 {
     let answer = check(n, m, p, a, l, c, k, low, high);
-    if !is_done(answer) {
+    if number_of(answer) != 0 {
         return Commanded {
             answer,
             values: [0; 4],
         };
     }
     let values = command_values(k, low, high, state, n, p);
+    Commanded { answer, values }
+}
+
+// The commands of the state after one period with these readings: what a box that decides issues.
+pub fn issue<'a, 'b>(
+    n: usize,
+    m: usize,
+    p: usize,
+    a: &'a [i32; 36],
+    l: &'a [i32; 24],
+    c: &'a [i32; 24],
+    k: &'a [i32; 24],
+    low: &'a [i32; 4],
+    high: &'a [i32; 4],
+    state: &'b [i32; 6],
+    readings: Readings,
+) -> Commanded
+    ensures answer { λ r. ⌜ number (r .answer) ≡ refusal (settingsOf n m p (now (a .entry)) (now (l .entry)) (now (c .entry)) (now (k .entry)) (now (low .entry)) (now (high .entry))) ⌝ }
+    ensures values { λ r. ⌜ r .values ≡ issued (settingsOf n m p (now (a .entry)) (now (l .entry)) (now (c .entry)) (now (k .entry)) (now (low .entry)) (now (high .entry))) (now (state .entry)) readings ⌝ }
+{
+    let answer = check(n, m, p, a, l, c, k, low, high);
+    if number_of(answer) != 0 {
+        return Commanded {
+            answer,
+            values: [0; 4],
+        };
+    }
+    let next = updated_state(a, l, c, state, n, m, readings);
+    let values = command_values(k, low, high, &next, n, p);
     Commanded { answer, values }
 }

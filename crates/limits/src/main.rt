@@ -38,7 +38,7 @@ fn frame_line(bytes: &[u8]) {
 
 // A Propose with n = 4 and m = 2, whole, and a byte shorter and longer.
 fn frames() {
-    let mut area = [0u8; 69];
+    let mut area = [0u8; frame::lengths::LONGEST_FRAME];
     frame::write(4, 2, propose(), &mut area);
     frame_line(&area[0..52]);
     frame_line(&area[0..53]);

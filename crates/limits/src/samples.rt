@@ -1,4 +1,5 @@
 // What is looked at: settings whose other numbers are taken, and a Propose.
+use estimate::Estimate;
 use frame::Frame;
 use readings::Readings;
 use replica::Settings;
@@ -34,17 +35,21 @@ pub(crate) fn settings(boxes: u8, own: u8) -> Settings {
 
 // The Propose of box 1 in period 1 and view 0.
 pub(crate) fn propose() -> Frame {
+    let readings = Readings {
+        present: [true, true, false, false],
+        values: [5i32, 6, 0, 0],
+    };
+    let estimate = Estimate {
+        state: [1i32, 2, 3, 4, 0, 0],
+        readings,
+    };
     Frame {
-        kind: 1,
+        kind: frame::kinds::PROPOSE,
         sender: 1,
         period: 1,
         view: 0,
         base_view: 0,
         base_period: 1,
-        state: [1i32, 2, 3, 4, 0, 0],
-        readings: Readings {
-            present: [true, true, false, false],
-            values: [5i32, 6, 0, 0],
-        },
+        estimate,
     }
 }

@@ -1,4 +1,5 @@
--- Laws of fields, of numbers and of places in lists.
+-- Laws of fields, of readings, of lines that are too long, and of frames in their slots.
 pub mod FieldLaws
-pub mod NumberLaws
-pub mod PlaceLaws
+pub mod RowLaws
+pub mod LongLines
+pub mod FrameLaws

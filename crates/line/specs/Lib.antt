@@ -1,5 +1,4 @@
--- The definitions, in the order to read: numbers, fields, what a line calls for, and the frames that lines sent.
-pub mod Numbers
+-- The definitions, in the order to read: fields, what a line calls for, and the frames that lines sent.
 pub mod Fields
 pub mod Events
 pub mod Frames

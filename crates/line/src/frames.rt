@@ -1,8 +1,11 @@
-// The frames that lines sent. Line f has the 69 bytes of a table from 69 * f on, and the length of its frame at place f of a list.
+// The frames that lines sent. Line f has the SLOT bytes of a table from SLOT * f on, and the length of its frame at place f of a list.
 ghost use mathlib.Core.Path.{_≡_};
 ghost use Prim.Native.Nat.{_+_, _*_, _≤_};
 ghost use lib.ListN.{length, take};
-ghost use Rattle.line.specs.Frames.{wasSent, frameOf, frameFits, keptFrame, kept};
+ghost use Rattle.line.specs.Frames.{slot, wasSent, frameOf, frameFits, keptFrame, kept};
+
+// The longest frame has 69 bytes.
+pub const SLOT: usize = 69;
 
 // Whether line f sent a frame before line `number`.
 pub fn was_sent(lengths: &[usize], number: u32, f: u32) -> bool
@@ -25,7 +28,7 @@ pub fn was_sent(lengths: &[usize], number: u32, f: u32) -> bool
 pub fn frame_of(table: &[u8], f: u32, size: usize) -> &[u8]
     ensures { λ r. ⌜ now r ≡ frameOf (now (table .entry)) f size ⌝ }
 {
-    let a = 69 * (f as usize);
+    let a = SLOT * (f as usize);
     if table.len() <= a {
         return &table[0..0];
     }
@@ -42,17 +45,17 @@ fn fits(table: usize, number: u32, frame: usize, size: usize) -> bool
     if frame < size {
         return false;
     }
-    if 69 < size {
+    if SLOT < size {
         return false;
     }
-    69 * (number as usize) + size <= table
+    SLOT * (number as usize) + size <= table
 }
 
 fn put_frame(table: &mut [u8], number: u32, frame: &[u8], size: usize)
-    requires { ⌜ (size ≤ length (now frame)) × (69 * number + size ≤ length (now table)) ⌝ }
+    requires { ⌜ (size ≤ length (now frame)) × (slot * number + size ≤ length (now table)) ⌝ }
     ensures { λ _. ⌜ now (table .exit) ≡ keptFrame (now (table .entry)) number (take size (now (frame .entry))) ⌝ }
 {
-    let a = 69 * (number as usize);
+    let a = SLOT * (number as usize);
     let mut i = 0;
     while i < size {
         table[a + i] = frame[i];

@@ -1,4 +1,3 @@
--- Laws of filled places, and of rows as they are read.
-pub mod Places
+-- Laws of marks, and of rows as they are read.
 pub mod Marks
 pub mod Normalised

@@ -1,11 +1,12 @@
 -- A row of readings: for each of four places a present mark and a value, of which the first m are in use.
 use Prim.Native.Nat.{ℕ}
-use mathlib.Core.Bool.{Bool, false, cond, _||_}
+use mathlib.Core.Bool.{Bool, false, _||_}
 use mathlib.Core.List.{List, [], _∷_}
 use lib.ListN.{getD, drop, replicate}
 use lib.IntN.{ℤ, pos}
 use Rattle.readings.specs.declared.Readings.{Readings}
-use Rattle.readings.specs.Places.{entry, filled}
+use Rattle.lists.specs.Choice.{pick}
+use Rattle.lists.specs.Places.{entry, filled}
 
 -- the mark of reading j, counted from 0
 abbrev pub present : Readings → ℕ → Bool
@@ -13,7 +14,7 @@ present y j = getD (y .present) j false
 
 -- "A value given under an absent mark is read as 0."
 abbrev pub value : Readings → ℕ → ℤ
-value y j = cond (present y j) (entry (y .values) j) (pos 0)
+value y j = pick (present y j) (entry (y .values) j) (pos 0)
 
 -- the row as the law and the frames read it: "Places of a table or list beyond n, m and p are not looked at"
 unfoldable pub normalised : ℕ → Readings → Readings

@@ -1,8 +1,8 @@
 // A row of readings, the shape that the law, the frames and the replica share.
 ghost use mathlib.Core.Path.{_≡_};
-ghost use mathlib.Core.Bool.{cond};
 ghost use Prim.Native.Nat.{_≤_};
 ghost use lib.IntN.{pos};
+ghost use Rattle.lists.specs.Choice.{pick};
 ghost use Rattle.readings.specs.Readings.{normalised, noReadings, strayMark};
 
 // Place j holds the present mark and the value of reading j, counted from 0.
@@ -23,7 +23,7 @@ pub fn no_readings() -> Readings
 
 // A value under its mark.
 fn read_value(present: bool, value: i32) -> i32
-    ensures { λ r. ⌜ r ≡ cond present value (pos 0) ⌝ }
+    ensures { λ r. ⌜ r ≡ pick present value (pos 0) ⌝ }
 {
     if present { value } else { 0 }
 }

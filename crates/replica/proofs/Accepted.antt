@@ -1,14 +1,21 @@
--- What settings that are not refused tell: the group's numbers, and the law's sizes. Assumes nothing.
-use mathlib.Core.Path.{_≡_, refl}
+-- What settings that are not refused tell: the group's numbers, the law's sizes, and what the rules rely on. Assumes nothing.
+use mathlib.Core.Path.{_≡_, refl, sym, _∙_}
 use mathlib.Core.Bool.{Bool, true, false, not, _||_}
 use Prim.Native.Nat.{ℕ, _≤_, _<_}
 use native.Mathlib.Omega.{arith}
 use lib.Dec.{T, eqb, ltb, nltb→le}
-use Rattle.scram.specs.Events.{pick, badSender}
-use Rattle.scram.proofs.Tests.{nor-left, nor-right}
-use Rattle.law.specs.Settings.{refusal}
+use borrow.Author.Tests.{le-leb}
+use Rattle.lists.specs.Choice.{pick}
+use Rattle.lists.specs.Refusals.{firstOf}
+use Rattle.lists.proofs.Booleans.{nor-left, nor-right}
+use Rattle.scram.specs.Events.{badSender}
+use Rattle.law.specs.declared.Settings as Law
+use Rattle.law.specs.Settings.{refusals, refusal}
+use Rattle.law.proofs.Laws.{sizes-accepted}
+use Rattle.law.proofs.Lent.{refusal-first}
+use Rattle.frame.specs.Sizes.{sizesOk, commandsOk}
 use Rattle.replica.specs.declared.Settings.{Settings}
-use Rattle.replica.specs.Settings.{badGroup, settingsRefusal}
+use Rattle.replica.specs.Settings.{badGroup, settingsRefusal, memberOf, Fit}
 
 -- "Group size N, 3 to 9; boxes are numbered 1 to N"
 pub record Grouped (N own : ℕ) : Type 0 where
@@ -33,12 +40,29 @@ pub record Accepted (s : Settings) : Type 0 where
   pub law : refusal (s .law) ≡ 0
 
 pub accepted : (s : Settings) → settingsRefusal s ≡ 0 → Accepted s
-unfolding settingsRefusal pick
+unfolding settingsRefusal firstOf pick
 accepted s e = by (badGroup (s .boxes) (s .own)) refl e
   where
-    by : (b : Bool) → badGroup (s .boxes) (s .own) ≡ b → pick b 1 (refusal (s .law)) ≡ 0 → Accepted s
+    by : (b : Bool) → badGroup (s .boxes) (s .own) ≡ b → pick b 1 (firstOf (refusals (s .law))) ≡ 0 → Accepted s
     by true q z = absurd (omega arith)
-    by false q z = record { group = grouped (s .boxes) (s .own) (rw q tt); law = z }
+    by false q z = record { group = grouped (s .boxes) (s .own) (rw q tt); law = sym (refusal-first (s .law)) ∙ z }
+
+-- the sizes that the law accepts are those of frames and commands
+module _ (s : Law.Settings) (e : refusal s ≡ 0) where
+  pub frame-sizes : sizesOk (s .n) (s .m) ≡ true
+  unfolding sizesOk
+  frame-sizes =
+      let z = sizes-accepted s e in
+      rw (le-leb 1 (s .n) (z .n1), le-leb (s .n) 6 (z .n6), le-leb 1 (s .m) (z .m1), le-leb (s .m) 4 (z .m4))
+
+  pub command-sizes : commandsOk (s .p) ≡ true
+  unfolding commandsOk
+  command-sizes = let z = sizes-accepted s e in rw (le-leb 1 (s .p) (z .p1), le-leb (s .p) 4 (z .p4))
+
+pub fit : (s : Settings) → settingsRefusal s ≡ 0 → Fit (memberOf s)
+fit s e =
+    let a = accepted s e in
+    record { boxes = a .group .N9; own = omega (arith, a .group .ownN, a .group .N9); sizes = frame-sizes (s .law) (a .law) }
 
 -- a sender that is not refused by 9 has a place among the boxes heard
 pub sender-place : (N own sender : ℕ) → N ≤ 9 → badSender N own sender ≡ false → sender < 10

@@ -1,5 +1,5 @@
--- Laws of `Gives`: steps that write nothing, and steps that write one area alone. Assumes nothing.
-use mathlib.Core.Path.{_≡_, refl, sym, ap, subst}
+-- Laws of `Says` and `Gives`: rules that change nothing or write nothing, and the step that a rule's move becomes. Assumes nothing.
+use mathlib.Core.Path.{_≡_, refl, sym, ap, _∙_, subst}
 use mathlib.Core.Bool.{Bool, true, false, true≢false, false≢true}
 use mathlib.Core.List.{List, [], _∷_}
 use mathlib.Core.Option.{none}
@@ -7,32 +7,42 @@ use Prim.Native.Nat.{ℕ}
 use native.Mathlib.Omega.{arith}
 use lib.ListN.{length}
 use lib.IntN.{ℤ}
+use Rattle.lists.specs.Choice.{pick}
 use Rattle.readings.specs.declared.Readings.{Readings}
 use Rattle.scram.specs.declared.Answer.the-variants.{Done}
-use Rattle.scram.specs.Replica as Scram
-use Rattle.scram.specs.Replica.{Outcome}
-use Rattle.scram.specs.Events.{pick, refusing, ignoring, doing}
-use Rattle.frame.specs.Bytes.{over}
+use Rattle.scram.specs.Held as Scram
+use Rattle.scram.specs.Events.{refusing, ignoring, doing}
+use Rattle.law.specs.declared.Settings as Law
+use Rattle.bytes.specs.Areas.{over}
 use Rattle.replica.specs.declared.Settings.{Settings}
+use Rattle.replica.specs.declared.Held.{Held}
+use Rattle.replica.specs.declared.Member.{Member}
+use Rattle.replica.specs.declared.Moved.{Moved}
 use Rattle.replica.specs.declared.Replica.{Replica}
 use Rattle.replica.specs.declared.Stepped.{Stepped}
-use Rattle.replica.specs.Held.{held, replicaOf}
+use Rattle.replica.specs.Settings.{memberOf}
+use Rattle.replica.specs.Held.{heldIn, heldOf}
 use Rattle.replica.specs.Frames.{sentBytes, issuedBytes}
-use Rattle.replica.specs.Calls.{checked, stepRefusal, Gives}
-use Rattle.replica.specs.Rules.{tickRefusal, refusedStep, ignoredStep}
-use Rattle.replica.proofs.Calls.{checked-refused, checked-done, ticks, next, tick-refused, Ticks}
+use Rattle.replica.specs.Calls.{Outcomes, checked, stepRefusal, Gives}
+use Rattle.replica.specs.Rules.{Says, commandOf, steppedBy, refusedStep, refusedRule, ignoredRule}
+use Rattle.replica.proofs.Calls.{checked-refused, checked-done}
 
-module _ (r : Replica) (frame command : List ℕ) where
-  pub gives-refused : (number : ℕ) → Gives (r .settings) (refusing (held r) number) (refusedStep r number) frame frame command command
-  gives-refused number = record { answer = refl; replica = refl; frame-length = refl; command-length = refl; frame-bytes = refl; command-bytes = refl }
+-- ---- rules
 
-  pub gives-ignored : Gives (r .settings) (ignoring (held r)) (ignoredStep r) frame frame command command
-  gives-ignored = record { answer = refl; replica = refl; frame-length = refl; command-length = refl; frame-bytes = refl; command-bytes = refl }
+module _ (law : Law.Settings) (member : Member) (h : Held) (frame : List ℕ) where
+  pub says-refused : (number : ℕ) → Says law member (refusing (heldIn h) number) (refusedRule h number) frame frame
+  unfolding pick
+  says-refused number = record { answer = refl; held = refl; frame-length = refl; frame-bytes = refl; command = refl }
 
--- a step that is done and writes nothing
-pub gives-done : {s : Settings} {h : Scram.Replica (List ℤ) Readings} {next : Replica} {frame command : List ℕ} → next ≡ replicaOf s h
-    → Gives s (doing h none none) (record { answer = Done; replica = next; frame = 0; command = 0 }) frame frame command command
-gives-done e = record { answer = refl; replica = e; frame-length = refl; command-length = refl; frame-bytes = refl; command-bytes = refl }
+  pub says-ignored : Says law member (ignoring (heldIn h)) (ignoredRule h) frame frame
+  unfolding pick
+  says-ignored = record { answer = refl; held = refl; frame-length = refl; frame-bytes = refl; command = refl }
+
+-- a rule that is done and writes nothing
+pub says-done : {law : Law.Settings} {member : Member} {h : Scram.Held (List ℤ) Readings} {next : Held} {frame : List ℕ} → next ≡ heldOf h
+    → Says law member (doing h none none) (record { answer = Done; held = next; frame = 0; issues = false }) frame frame
+unfolding pick
+says-done e = record { answer = refl; held = e; frame-length = refl; frame-bytes = refl; command = refl }
 
 -- what leaves an empty area empty is nothing
 nothing : (written : List ℕ) → [] ≡ over written [] → written ≡ []
@@ -40,65 +50,73 @@ nothing [] e = refl
 nothing (b ∷ written) e = let z = ap length e in absurd (omega arith)
 
 -- and leaves every area
-pub untouched : (written area : List ℕ) → [] ≡ over written [] → area ≡ over written area
+untouched : (written area : List ℕ) → [] ≡ over written [] → area ≡ over written area
 untouched written area e = sym (ap (λ w. over w area) (nothing written e))
 
-module _ {s : Settings} {o : Outcome (List ℤ) Readings} {r : Stepped} where
-  module _ {frame frame′ command command′ : List ℕ} where
+module _ {law : Law.Settings} {member : Member} {o : Outcomes} {r : Moved} where
+  module _ {frame frame′ : List ℕ} where
     -- the outcome that a test picks
-    pub gives-true : (b : Bool) (p : Outcome (List ℤ) Readings) → b ≡ true → Gives s o r frame frame′ command command′ → Gives s (pick b o p) r frame frame′ command command′
+    pub says-true : (b : Bool) (p : Outcomes) → b ≡ true → Says law member o r frame frame′ → Says law member (pick b o p) r frame frame′
     unfolding pick
-    gives-true true p e g = g
-    gives-true false p e g = absurd (false≢true e)
+    says-true true p e g = g
+    says-true false p e g = absurd (false≢true e)
 
-    pub gives-false : (b : Bool) (p : Outcome (List ℤ) Readings) → b ≡ false → Gives s o r frame frame′ command command′ → Gives s (pick b p o) r frame frame′ command command′
+    pub says-false : (b : Bool) (p : Outcomes) → b ≡ false → Says law member o r frame frame′ → Says law member (pick b p o) r frame frame′
     unfolding pick
-    gives-false true p e g = absurd (true≢false e)
-    gives-false false p e g = g
+    says-false true p e g = absurd (true≢false e)
+    says-false false p e g = g
 
-  -- a step that is not lent the command area leaves it
-  pub gives-frame : {frame frame′ : List ℕ} (command : List ℕ) → Gives s o r frame frame′ [] [] → Gives s o r frame frame′ command command
-  gives-frame command g = record {
+  -- a rule that is not lent the frame area leaves it
+  pub says-nothing : (frame : List ℕ) → Says law member o r [] [] → Says law member o r frame frame
+  says-nothing frame g = record {
     answer = g .answer;
-    replica = g .replica;
+    held = g .held;
     frame-length = g .frame-length;
-    command-length = g .command-length;
-    frame-bytes = g .frame-bytes;
-    command-bytes = untouched (issuedBytes s (o .command)) command (g .command-bytes);
+    frame-bytes = untouched (sentBytes (member .n) (member .m) (o .sent)) frame (g .frame-bytes);
+    command = g .command;
   }
 
-  -- a step that is not lent the frame area leaves it
-  pub gives-command : {command command′ : List ℕ} (frame : List ℕ) → Gives s o r [] [] command command′ → Gives s o r frame frame command command′
-  gives-command frame g = record {
+-- ---- steps
+
+module _ (s : Settings) {o : Outcomes} {moved : Moved} {frame frame′ : List ℕ} (g : Says (s .law) (memberOf s) o moved frame frame′) where
+  -- the command is written where the rule issues it
+  pub gives-issued : (issued : ℕ) {command command′ : List ℕ} → issued ≡ length (issuedBytes (s .law .p) (commandOf (s .law) (moved .issues) (moved .held)))
+      → command′ ≡ over (issuedBytes (s .law .p) (commandOf (s .law) (moved .issues) (moved .held))) command
+      → Gives s o (steppedBy s moved issued) frame frame′ command command′
+  gives-issued issued {command} {command′} q e = record {
     answer = g .answer;
-    replica = g .replica;
+    replica = λ i. record { settings = s; held = g .held i };
     frame-length = g .frame-length;
-    command-length = g .command-length;
-    command-bytes = g .command-bytes;
-    frame-bytes = untouched (sentBytes s (o .sent)) frame (g .frame-bytes);
+    command-length = q ∙ ap (λ c. length (issuedBytes (s .law .p) c)) (g .command);
+    frame-bytes = g .frame-bytes;
+    command-bytes = e ∙ ap (λ c. over (issuedBytes (s .law .p) c) command) (g .command);
+  }
+
+  -- none is issued
+  pub gives-silent : o .command ≡ none → (command : List ℕ) → Gives s o (steppedBy s moved 0) frame frame′ command command
+  gives-silent n command = record {
+    answer = g .answer;
+    replica = λ i. record { settings = s; held = g .held i };
+    frame-length = g .frame-length;
+    command-length = sym (ap (λ c. length (issuedBytes (s .law .p) c)) n);
+    frame-bytes = g .frame-bytes;
+    command-bytes = sym (ap (λ c. over (issuedBytes (s .law .p) c) command) n);
   }
 
 -- ---- refusals 1 to 5, and the tick's
 
 module _ (r : Replica) (frame command : List ℕ) where
-  pub checked-gives-refused : (o : Outcome (List ℤ) Readings) → (stepRefusal r (length frame) (length command) ≡ 0 → ⊥)
-      → Gives (r .settings) (checked r (length frame) (length command) o) (refusedStep r (stepRefusal r (length frame) (length command))) frame frame command command
-  checked-gives-refused o n =
-      subst (λ o. Gives (r .settings) o (refusedStep r (stepRefusal r (length frame) (length command))) frame frame command command)
-      (checked-refused r (length frame) (length command) o n) (gives-refused r frame command (stepRefusal r (length frame) (length command)))
+  pub gives-refused : (number : ℕ) → Gives (r .settings) (refusing (heldIn (r .held)) number) (refusedStep r number) frame frame command command
+  gives-refused number = record { answer = refl; replica = refl; frame-length = refl; command-length = refl; frame-bytes = refl; command-bytes = refl }
 
-  pub checked-gives : {s : Stepped} {frame′ command′ : List ℕ} (o : Outcome (List ℤ) Readings) → stepRefusal r (length frame) (length command) ≡ 0
+  pub checked-gives-refused : (o : Outcomes) (number : ℕ) → number ≡ stepRefusal (r .settings) (length frame) (length command) → (number ≡ 0 → ⊥)
+      → Gives (r .settings) (checked r (length frame) (length command) o) (refusedStep r number) frame frame command command
+  checked-gives-refused o number e n =
+      subst (λ o. Gives (r .settings) o (refusedStep r number) frame frame command command)
+      (ap (refusing (heldIn (r .held))) e ∙ checked-refused r (length frame) (length command) o (λ z. n (e ∙ z))) (gives-refused number)
+
+  pub checked-gives : {s : Stepped} {frame′ command′ : List ℕ} (o : Outcomes) → stepRefusal (r .settings) (length frame) (length command) ≡ 0
       → Gives (r .settings) o s frame frame′ command command′
       → Gives (r .settings) (checked r (length frame) (length command) o) s frame frame′ command command′
   checked-gives {s} {frame′} {command′} o e g =
       subst (λ o. Gives (r .settings) o s frame frame′ command command′) (checked-done r (length frame) (length command) o e) g
-
-  pub tick-gives-refused : (y : Readings) → (tickRefusal r y ≡ 0 → ⊥)
-      → Gives (r .settings) (ticks r y) (refusedStep r (tickRefusal r y)) frame frame command command
-  tick-gives-refused y n =
-      subst (λ o. Gives (r .settings) o (refusedStep r (tickRefusal r y)) frame frame command command) (tick-refused r y n)
-      (gives-refused r frame command (tickRefusal r y))
-
-  pub tick-gives : {s : Stepped} {frame′ command′ : List ℕ} (y : Readings) → Ticks r y → Gives (r .settings) (next r y) s frame frame′ command command′
-      → Gives (r .settings) (ticks r y) s frame frame′ command command′
-  tick-gives {s} {frame′} {command′} y t g = subst (λ o. Gives (r .settings) o s frame frame′ command command′) (t .same) g

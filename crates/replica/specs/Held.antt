@@ -1,60 +1,68 @@
--- A replica's value, read as what the protocol's replica holds, and back: nothing is lost either way.
+-- What a replica holds, as the code's structs and as the protocol's records. `heldIn` reads a struct as the record, and `heldOf` is the struct of a
+-- record: nothing is lost either way.
 use mathlib.Core.List.{List}
 use lib.IntN.{ℤ}
 use Rattle.readings.specs.declared.Readings.{Readings}
-use Rattle.scram.specs.Replica as Scram
-use Rattle.replica.specs.declared.Settings.{Settings}
+use Rattle.scram.specs.Held as Scram
+use Rattle.estimate.specs.declared.Estimate.{Estimate}
 use Rattle.replica.specs.declared.Best.{Best}
-use Rattle.replica.specs.declared.Replica.{Replica}
+use Rattle.replica.specs.declared.Held.{Held}
 
--- the best estimate heard
-abbrev pub heldBest : Best → Scram.Best (List ℤ) Readings
-heldBest b = record {
+-- ---- the protocol's records
+
+-- "an estimate (state, readings, ..)"
+abbrev pub estimateIn : Estimate → Scram.Estimate (List ℤ) Readings
+estimateIn e = record { state = e .state; readings = e .readings }
+
+-- "the best estimate heard"
+abbrev pub bestIn : Best → Scram.Best (List ℤ) Readings
+bestIn b = record {
   any = b .any;
   box = b .«box_number»;
   baseView = b .«base_view»;
   basePeriod = b .«base_period»;
-  state = b .state;
-  readings = b .readings;
+  estimate = estimateIn (b .estimate);
 }
 
 -- what a replica holds
-abbrev pub held : Replica → Scram.Replica (List ℤ) Readings
-held r = record {
-  period = r .period;
-  view = r .view;
-  baseView = r .«base_view»;
-  viewChange = r .«view_change»;
-  decided = r .decided;
-  state = r .state;
-  readings = r .readings;
-  basePeriod = r .«base_period»;
-  heard = r .heard;
-  best = heldBest (r .best);
+abbrev pub heldIn : Held → Scram.Held (List ℤ) Readings
+heldIn h = record {
+  period = h .period;
+  view = h .view;
+  baseView = h .«base_view»;
+  viewChange = h .«view_change»;
+  decided = h .decided;
+  estimate = estimateIn (h .estimate);
+  basePeriod = h .«base_period»;
+  heard = h .heard;
+  best = bestIn (h .best);
 }
 
--- the value of a best estimate
+-- ---- the structs
+
+-- the struct of an estimate
+abbrev pub estimateOf : Scram.Estimate (List ℤ) Readings → Estimate
+estimateOf e = record { state = e .state; readings = e .readings }
+
+-- the struct of a best estimate
 abbrev pub bestOf : Scram.Best (List ℤ) Readings → Best
 bestOf b = record {
   any = b .any;
   «box_number» = b .box;
   «base_view» = b .baseView;
   «base_period» = b .basePeriod;
-  state = b .state;
-  readings = b .readings;
+  estimate = estimateOf (b .estimate);
 }
 
--- the replica with these settings that holds this
-abbrev pub replicaOf : Settings → Scram.Replica (List ℤ) Readings → Replica
-replicaOf s h = record {
-  settings = s;
+-- the struct of what is held
+abbrev pub heldOf : Scram.Held (List ℤ) Readings → Held
+heldOf h = record {
   period = h .period;
   view = h .view;
   «base_view» = h .baseView;
   «view_change» = h .viewChange;
   decided = h .decided;
-  state = h .state;
-  readings = h .readings;
+  estimate = estimateOf (h .estimate);
   «base_period» = h .basePeriod;
   heard = h .heard;
   best = bestOf (h .best);

@@ -1,4 +1,4 @@
--- The definitions, in the order to read: settings, what is held, frames, the four calls, and shorthands for the functions inside them.
+-- The definitions, in the order to read: settings, what is held, frames, the four calls, and what the functions inside them do.
 pub mod Settings
 pub mod Held
 pub mod Frames

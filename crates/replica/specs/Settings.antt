@@ -1,42 +1,80 @@
 -- The settings of a replica: refusals 1 to 4, and the law and the group that they give the protocol.
-use Prim.Native.Nat.{ℕ}
-use mathlib.Core.Bool.{Bool, _||_}
-use mathlib.Core.List.{List}
+use Prim.Native.Nat.{ℕ, _≤_}
+use mathlib.Core.Path.{_≡_}
+use mathlib.Core.Bool.{Bool, true, _||_}
+use mathlib.Core.List.{List, _∷_}
 use lib.Dec.{ltb}
+use lib.ListN.{replicate}
 use lib.IntN.{ℤ, pos}
-use Rattle.readings.specs.Places.{entry, filled}
+use Rattle.lists.specs.Refusals.{Refusal, refusal, firstOf}
 use Rattle.readings.specs.declared.Readings.{Readings}
 use Rattle.readings.specs.Readings.{noReadings}
 use Rattle.scram.specs.Quorum.{majority, coordinator}
-use Rattle.scram.specs.Replica.{Law, Group}
-use Rattle.scram.specs.Events.{pick}
-use Rattle.law.specs.Settings.{refusal}
-use Rattle.law.specs.Law.{updated}
-use Rattle.frame.specs.Fields.{noState}
+use Rattle.scram.specs.Held.{Law, Group}
+use Rattle.law.specs.declared.Settings as Law
+use Rattle.law.specs.Settings.{refusals}
+use Rattle.law.specs.Law.{updated, issued}
+use Rattle.estimate.specs.Fields.{noState, firstStates}
+use Rattle.frame.specs.Sizes.{sizesOk}
 use Rattle.replica.specs.declared.Settings.{Settings}
+use Rattle.replica.specs.declared.Member.{Member}
 
 -- 1: "N not 3 to 9, or own number not 1 to N"
 unfoldable pub badGroup : ℕ → ℕ → Bool
 badGroup N own = ltb N 3 || ltb 9 N || ltb own 1 || ltb N own
 
--- the number of the refusal, or 0: 1, then 2 to 4 by the law
+-- the refusals of settings in their order: 1, then the law's 2 to 4
+abbrev pub settingsRefusals : Settings → List Refusal
+settingsRefusals s = refusal 1 (badGroup (s .boxes) (s .own)) ∷ refusals (s .law)
+
+-- the number of the first that is made, or 0
 unfoldable pub settingsRefusal : Settings → ℕ
-settingsRefusal s = pick (badGroup (s .boxes) (s .own)) 1 (refusal (s .law))
+settingsRefusal s = firstOf (settingsRefusals s)
 
 -- the fixed law, as the protocol sees it; "A starting state of n i32 values. Places .. beyond n .. are not looked at"
-abbrev pub lawOf : Settings → Law (List ℤ) Readings
-lawOf s = record {
-  update = updated (s .law);
-  start = filled (pos 0) 6 (s .law .n) (entry (s .law .start));
+abbrev pub lawOf : Law.Settings → Law (List ℤ) Readings (List ℤ)
+lawOf law = record {
+  update = updated law;
+  command = issued law;
+  start = firstStates (law .n) (law .start);
   none = noReadings;
   blank = noState;
 }
 
+-- the few numbers of the settings that the rules need
+abbrev pub memberOf : Settings → Member
+memberOf s = record { boxes = s .boxes; own = s .own; n = s .law .n; m = s .law .m }
+
 -- a group of N boxes, with majorities
-abbrev pub groupOf : Settings → Group
-groupOf s = record {
-  size = s .boxes;
-  toDecide = majority (s .boxes);
-  toPropose = majority (s .boxes);
-  coordinator = coordinator (s .boxes);
+abbrev pub groupOf : Member → Group
+groupOf member = record {
+  size = member .boxes;
+  toDecide = majority (member .boxes);
+  toPropose = majority (member .boxes);
+  coordinator = coordinator (member .boxes);
+}
+
+-- what settings that are not refused tell the rules: each box has a place among the boxes heard, and frames have a form
+pub record Fit (member : Member) : Type 0 where
+  pub boxes : member .boxes ≤ 9
+  pub own : member .own ≤ 9
+  pub sizes : sizesOk (member .n) (member .m) ≡ true
+
+-- settings of nothing, which 1 refuses
+abbrev pub blankSettings : Settings
+blankSettings = record {
+  boxes = 0;
+  own = 0;
+  law = record {
+    n = 0;
+    m = 0;
+    p = 0;
+    a = replicate 36 (pos 0);
+    l = replicate 24 (pos 0);
+    c = replicate 24 (pos 0);
+    k = replicate 24 (pos 0);
+    low = replicate 4 (pos 0);
+    high = replicate 4 (pos 0);
+    start = noState;
+  };
 }

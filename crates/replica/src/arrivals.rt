@@ -4,23 +4,26 @@ ghost use mathlib.Core.Bool.{true};
 ghost use mathlib.Core.List.{[]};
 ghost use Prim.Native.Nat.{_≤_, _<_};
 ghost use lib.ListN.{length};
+ghost use Rattle.law.specs.declared.Settings as Law;
 ghost use Rattle.frame.specs.Answers.{number};
-ghost use Rattle.replica.specs.Settings.{settingsRefusal};
-ghost use Rattle.replica.specs.Frames.{kindOf};
-ghost use Rattle.replica.specs.Calls.{Gives};
-ghost use Rattle.replica.specs.Rules.{majorityHeard, decided, received, ackHeard, estimateHeard, isIgnored, arrived, bytesArrived};
+ghost use Rattle.frame.specs.Lengths.{longestFrame};
+ghost use Rattle.scram.specs.Events as Events;
+ghost use Rattle.replica.specs.Settings.{Fit, lawOf, groupOf};
+ghost use Rattle.replica.specs.Held.{bestIn, heldIn};
+ghost use Rattle.replica.specs.Frames.{kindOf, messageOf, found};
+ghost use Rattle.replica.specs.Rules.{Says, majorityHeard, decided};
 use crate::Best;
-use crate::Replica;
-use crate::Stepped;
+use crate::Held;
+use crate::Member;
+use crate::Moved;
 use crate::moves::adopting;
 use crate::moves::better;
 use crate::moves::entered;
 use crate::moves::hearing;
 use crate::moves::with_box;
-use crate::output::issue;
 use crate::output::send;
 use crate::refusals::ignored;
-use crate::refusals::refused;
+use crate::refusals::refused_rule;
 use crate::rules::propose;
 use frame::Frame;
 use scram::Answer;
@@ -30,237 +33,222 @@ use scram::Kind;
 fn kind_of(number: u8) -> Kind
     ensures { λ r. ⌜ r ≡ kindOf number ⌝ }
 {
-    if number == 1 {
+    if number == frame::kinds::PROPOSE {
         return Kind::Propose;
     }
-    if number == 2 {
+    if number == frame::kinds::ACK {
         return Kind::Ack;
     }
-    if number == 3 {
+    if number == frame::kinds::DECIDE {
         return Kind::Decide;
     }
     Kind::Estimate
 }
 
 // A Propose: its view and estimate are adopted, and an Ack goes back.
-fn receive_propose(replica: Replica, f: Frame, frame: &mut [u8]) -> Stepped
-    requires { ⌜ (settingsRefusal (replica .settings) ≡ 0) × (69 ≤ length (now frame)) ⌝ }
-    ensures { λ r. ⌜ Gives (replica .settings) (received replica Kind.Propose f) r (now (frame .entry)) (now (frame .exit)) [] [] ⌝ }
+fn receive_propose(member: Member, held: Held, f: Frame, frame: &mut [u8]) -> Moved
+    requires { ⌜ Fit member × (longestFrame ≤ length (now frame)) ⌝ }
+    ensures { λ r. ⌜ ((law : Law.Settings) → Says law member (Events.receive (lawOf law) (groupOf member) (member .own) Kind.Propose (heldIn held) (messageOf f))
+        r (now (frame .entry)) (now (frame .exit))) ⌝ }
 {
-    let state = f.state;
-    let adopted = f.readings;
-    let next = adopting(replica, f.view, state, adopted, replica.decided);
-    let readings = readings::no_readings();
+    let adopted = f.estimate;
+    let next = adopting(held, f.view, adopted, held.decided);
+    let estimate = estimate::no_estimate();
     let ack = Frame {
-        kind: 2,
-        sender: replica.settings.own,
-        period: replica.period,
+        kind: frame::kinds::ACK,
+        sender: member.own,
+        period: held.period,
         view: f.view,
         base_view: 0,
         base_period: 0,
-        state: [0i32; 6],
-        readings,
+        estimate,
     };
-    let length = send(replica.settings.law.n, replica.settings.law.m, ack, frame);
-    Stepped {
+    let length = send(member.n, member.m, ack, frame);
+    Moved {
         answer: Answer::Done,
-        replica: next,
+        held: next,
         frame: length,
-        command: 0,
+        issues: false,
     }
 }
 
 // A majority has acknowledged: Decide to all others, and the command.
-fn decide(replica: Replica, box_number: u8, frame: &mut [u8], command: &mut [u8]) -> Stepped
-    requires { ⌜ (settingsRefusal (replica .settings) ≡ 0) × (69 ≤ length (now frame)) × (24 ≤ length (now command)) × («box_number» < 10) ⌝ }
-    ensures { λ r. ⌜ Gives (replica .settings) (decided replica «box_number») r (now (frame .entry)) (now (frame .exit)) (now (command .entry)) (now (command .exit)) ⌝ }
+fn decide(member: Member, held: Held, box_number: u8, frame: &mut [u8]) -> Moved
+    requires { ⌜ Fit member × (longestFrame ≤ length (now frame)) × («box_number» < 10) ⌝ }
+    ensures { λ r. ⌜ ((law : Law.Settings) → Says law member (decided law member (heldIn held) «box_number») r (now (frame .entry)) (now (frame .exit))) ⌝ }
 {
-    let best = replica.best;
-    let next = hearing(replica, box_number, best, true);
-    let state = replica.state;
-    let readings = replica.readings;
+    let best = held.best;
+    let next = hearing(held, box_number, best, true);
+    let estimate = held.estimate;
     let decision = Frame {
-        kind: 3,
-        sender: replica.settings.own,
-        period: replica.period,
-        view: replica.view,
-        base_view: replica.view,
-        base_period: replica.period,
-        state,
-        readings,
+        kind: frame::kinds::DECIDE,
+        sender: member.own,
+        period: held.period,
+        view: held.view,
+        base_view: held.view,
+        base_period: held.period,
+        estimate,
     };
-    let law = replica.settings.law;
-    let sent = send(law.n, law.m, decision, frame);
-    let issued = issue(law, replica.period, state, readings, command);
-    Stepped {
+    let length = send(member.n, member.m, decision, frame);
+    Moved {
         answer: Answer::Done,
-        replica: next,
-        frame: sent,
-        command: issued,
+        held: next,
+        frame: length,
+        issues: true,
     }
 }
 
 // Whether the boxes heard, with one more, are a majority.
-fn majority_heard(replica: Replica, box_number: u8) -> bool
+fn majority_heard(boxes: u8, heard: [bool; 10], box_number: u8) -> bool
     requires { ⌜ «box_number» < 10 ⌝ }
-    ensures { λ r. ⌜ r ≡ majorityHeard replica «box_number» ⌝ }
+    ensures { λ r. ⌜ r ≡ majorityHeard boxes heard «box_number» ⌝ }
 {
-    let heard = replica.heard;
     let more = with_box(heard, box_number);
-    let n = replica.settings.boxes;
-    scram::quorum::majority(n) <= scram::quorum::count_heard(more, n)
+    scram::quorum::majority(boxes) <= scram::quorum::count_heard(more, boxes)
 }
 
 // An Ack: at a majority the box decides.
-fn hear_ack(replica: Replica, box_number: u8, frame: &mut [u8], command: &mut [u8]) -> Stepped
-    requires { ⌜ (settingsRefusal (replica .settings) ≡ 0) × (69 ≤ length (now frame)) × (24 ≤ length (now command)) × («box_number» < 10) ⌝ }
-    ensures { λ r. ⌜ Gives (replica .settings) (ackHeard replica «box_number») r (now (frame .entry)) (now (frame .exit)) (now (command .entry)) (now (command .exit)) ⌝ }
+fn hear_ack(member: Member, held: Held, box_number: u8, frame: &mut [u8]) -> Moved
+    requires { ⌜ Fit member × (longestFrame ≤ length (now frame)) × («box_number» < 10) ⌝ }
+    ensures { λ r. ⌜ ((law : Law.Settings) → Says law member (Events.hearAck (lawOf law) (groupOf member) (member .own) (heldIn held) «box_number»)
+        r (now (frame .entry)) (now (frame .exit))) ⌝ }
 {
-    if majority_heard(replica, box_number) {
-        return decide(replica, box_number, frame, command);
+    let heard = held.heard;
+    if majority_heard(member.boxes, heard, box_number) {
+        return decide(member, held, box_number, frame);
     }
-    let best = replica.best;
-    let next = hearing(replica, box_number, best, replica.decided);
-    Stepped {
+    let best = held.best;
+    let next = hearing(held, box_number, best, held.decided);
+    Moved {
         answer: Answer::Done,
-        replica: next,
+        held: next,
         frame: 0,
-        command: 0,
+        issues: false,
     }
 }
 
 // A Decide: adopted like a Propose; the box decides and issues the command.
-fn receive_decide(replica: Replica, f: Frame, command: &mut [u8]) -> Stepped
-    requires { ⌜ (settingsRefusal (replica .settings) ≡ 0) × (24 ≤ length (now command)) ⌝ }
-    ensures { λ r. ⌜ Gives (replica .settings) (received replica Kind.Decide f) r [] [] (now (command .entry)) (now (command .exit)) ⌝ }
+fn receive_decide(held: Held, f: Frame) -> Moved
+    ensures { λ r. ⌜ ((law : Law.Settings) (member : Member) → Says law member (Events.receive (lawOf law) (groupOf member) (member .own) Kind.Decide (heldIn held) (messageOf f)) r [] []) ⌝ }
 {
-    let state = f.state;
-    let readings = f.readings;
-    let next = adopting(replica, f.view, state, readings, true);
-    let law = replica.settings.law;
-    let issued = issue(law, replica.period, state, readings, command);
-    Stepped {
+    let estimate = f.estimate;
+    let next = adopting(held, f.view, estimate, true);
+    Moved {
         answer: Answer::Done,
-        replica: next,
+        held: next,
         frame: 0,
-        command: issued,
+        issues: true,
     }
 }
 
 // An estimate heard: at a majority the best is taken whole and proposed.
-fn hear_estimate(replica: Replica, estimate: Best, frame: &mut [u8]) -> Stepped
-    requires { ⌜ (settingsRefusal (replica .settings) ≡ 0) × (69 ≤ length (now frame)) × (estimate .«box_number» < 10) ⌝ }
-    ensures { λ r. ⌜ Gives (replica .settings) (estimateHeard replica estimate) r (now (frame .entry)) (now (frame .exit)) [] [] ⌝ }
+fn hear_estimate(member: Member, held: Held, given: Best, frame: &mut [u8]) -> Moved
+    requires { ⌜ Fit member × (longestFrame ≤ length (now frame)) × (given .«box_number» < 10) ⌝ }
+    ensures { λ r. ⌜ ((law : Law.Settings) → Says law member (Events.hearEstimate (lawOf law) (groupOf member) (member .own) (heldIn held) (bestIn given))
+        r (now (frame .entry)) (now (frame .exit))) ⌝ }
 {
-    let before = replica.best;
-    let best = better(before, estimate);
-    let box_number = estimate.box_number;
-    if majority_heard(replica, box_number) {
-        let state = best.state;
-        let readings = best.readings;
-        return propose(replica, state, readings, frame);
+    let before = held.best;
+    let best = better(before, given);
+    let box_number = given.box_number;
+    let heard = held.heard;
+    if majority_heard(member.boxes, heard, box_number) {
+        let estimate = best.estimate;
+        return propose(member, held, estimate, frame);
     }
-    let next = hearing(replica, box_number, best, replica.decided);
-    Stepped {
+    let next = hearing(held, box_number, best, held.decided);
+    Moved {
         answer: Answer::Done,
-        replica: next,
+        held: next,
         frame: 0,
-        command: 0,
+        issues: false,
     }
 }
 
 // An Estimate: at a higher view the box first enters it.
-fn receive_estimate(replica: Replica, f: Frame, frame: &mut [u8]) -> Stepped
-    requires { ⌜ (settingsRefusal (replica .settings) ≡ 0) × (69 ≤ length (now frame)) × (f .sender < 10) ⌝ }
-    ensures { λ r. ⌜ Gives (replica .settings) (received replica Kind.Estimate f) r (now (frame .entry)) (now (frame .exit)) [] [] ⌝ }
+fn receive_estimate(member: Member, held: Held, f: Frame, frame: &mut [u8]) -> Moved
+    requires { ⌜ Fit member × (longestFrame ≤ length (now frame)) × (f .sender < 10) ⌝ }
+    ensures { λ r. ⌜ ((law : Law.Settings) → Says law member (Events.receive (lawOf law) (groupOf member) (member .own) Kind.Estimate (heldIn held) (messageOf f))
+        r (now (frame .entry)) (now (frame .exit))) ⌝ }
 {
-    let state = f.state;
-    let readings = f.readings;
-    let estimate = Best {
+    let estimate = f.estimate;
+    let given = Best {
         any: true,
         box_number: f.sender,
         base_view: f.base_view,
         base_period: f.base_period,
-        state,
-        readings,
+        estimate,
     };
-    if replica.view < f.view {
-        return hear_estimate(entered(replica, f.view), estimate, frame);
+    if held.view < f.view {
+        return hear_estimate(member, entered(member.own, held, f.view), given, frame);
     }
-    hear_estimate(replica, estimate, frame)
+    hear_estimate(member, held, given, frame)
 }
 
 // A frame that is neither refused nor ignored.
-fn receive(replica: Replica, kind: Kind, f: Frame, frame: &mut [u8], command: &mut [u8]) -> Stepped
-    requires { ⌜ (settingsRefusal (replica .settings) ≡ 0) × (69 ≤ length (now frame)) × (24 ≤ length (now command)) × (f .sender < 10) ⌝ }
-    ensures { λ r. ⌜ Gives (replica .settings) (received replica kind f) r (now (frame .entry)) (now (frame .exit)) (now (command .entry)) (now (command .exit)) ⌝ }
+fn receive(member: Member, held: Held, kind: Kind, f: Frame, frame: &mut [u8]) -> Moved
+    requires { ⌜ Fit member × (longestFrame ≤ length (now frame)) × (f .sender < 10) ⌝ }
+    ensures { λ r. ⌜ ((law : Law.Settings) → Says law member (Events.receive (lawOf law) (groupOf member) (member .own) kind (heldIn held) (messageOf f))
+        r (now (frame .entry)) (now (frame .exit))) ⌝ }
 {
     match kind {
-        Kind::Propose => receive_propose(replica, f, frame),
-        Kind::Ack => hear_ack(replica, f.sender, frame, command),
-        Kind::Decide => receive_decide(replica, f, command),
-        Kind::Estimate => receive_estimate(replica, f, frame),
+        Kind::Propose => receive_propose(member, held, f, frame),
+        Kind::Ack => hear_ack(member, held, f.sender, frame),
+        Kind::Decide => receive_decide(held, f),
+        Kind::Estimate => receive_estimate(member, held, f, frame),
     }
 }
 
 // Whether a frame is ignored.
-fn ignores(replica: Replica, kind: Kind, f: Frame) -> bool
+fn ignores(held: Held, kind: Kind, f: Frame) -> bool
     requires { ⌜ (f .sender < 10) × (kind ≡ kindOf (f .kind)) ⌝ }
-    ensures { λ r. ⌜ r ≡ isIgnored replica f ⌝ }
+    ensures { λ r. ⌜ r ≡ Events.ignores (heldIn held) (messageOf f) ⌝ }
 {
-    if scram::ignored::idle(replica.period, replica.decided) {
+    if scram::ignored::idle(held.period, held.decided) {
         return true;
     }
-    if scram::ignored::stale(replica.period, replica.view, f.period, f.view) {
+    if scram::ignored::stale(held.period, held.view, f.period, f.view) {
         return true;
     }
     let at = f.sender as usize;
-    let boxes = replica.heard;
+    let boxes = held.heard;
     let heard = boxes[at];
-    scram::ignored::unwanted(kind, replica.view, replica.view_change, heard, f.view)
+    scram::ignored::unwanted(kind, held.view, held.view_change, heard, f.view)
 }
 
 // A frame that was read: 9 to 11, then the grounds for ignoring, then its rule.
-fn arrive_frame(replica: Replica, f: Frame, frame: &mut [u8], command: &mut [u8]) -> Stepped
-    requires { ⌜ (settingsRefusal (replica .settings) ≡ 0) × (69 ≤ length (now frame)) × (24 ≤ length (now command)) ⌝ }
-    ensures { λ r. ⌜ Gives (replica .settings) (arrived replica f) r (now (frame .entry)) (now (frame .exit)) (now (command .entry)) (now (command .exit)) ⌝ }
+fn arrive_frame(member: Member, held: Held, f: Frame, frame: &mut [u8]) -> Moved
+    requires { ⌜ Fit member × (longestFrame ≤ length (now frame)) ⌝ }
+    ensures { λ r. ⌜ ((law : Law.Settings) → Says law member (Events.arrive (lawOf law) (groupOf member) (member .own) (heldIn held) (messageOf f))
+        r (now (frame .entry)) (now (frame .exit))) ⌝ }
 {
-    let n = replica.settings.boxes;
-    let own = replica.settings.own;
     let kind = kind_of(f.kind);
-    if scram::refusals::bad_sender(n, own, f.sender) {
-        return refused(replica, 9);
+    if scram::refusals::bad_sender(member.boxes, member.own, f.sender) {
+        return refused_rule(held, 9);
     }
-    let coordinator = scram::quorum::coordinator(n, f.view);
-    if scram::refusals::bad_place(kind, coordinator, own, f.sender) {
-        return refused(replica, 10);
+    let coordinator = scram::quorum::coordinator(member.boxes, f.view);
+    if scram::refusals::bad_place(kind, coordinator, member.own, f.sender) {
+        return refused_rule(held, 10);
     }
     if scram::refusals::bad_base(kind, f.period, f.view, f.base_view, f.base_period) {
-        return refused(replica, 11);
+        return refused_rule(held, 11);
     }
-    if ignores(replica, kind, f) {
-        return ignored(replica);
+    if ignores(held, kind, f) {
+        return ignored(held);
     }
-    receive(replica, kind, f, frame, command)
+    receive(member, held, kind, f, frame)
 }
 
 // Bytes that arrive: 8 where they are no frame.
-pub(crate) fn arrive_bytes(
-    replica: Replica,
-    bytes: &[u8],
-    frame: &mut [u8],
-    command: &mut [u8],
-) -> Stepped
-    requires { ⌜ (settingsRefusal (replica .settings) ≡ 0) × (69 ≤ length (now frame)) × (24 ≤ length (now command)) ⌝ }
-    ensures { λ r. ⌜ Gives (replica .settings) (bytesArrived replica (now (bytes .entry))) r (now (frame .entry)) (now (frame .exit)) (now (command .entry)) (now (command .exit)) ⌝ }
+pub(crate) fn arrive_bytes(member: Member, held: Held, bytes: &[u8], frame: &mut [u8]) -> Moved
+    requires { ⌜ Fit member × (longestFrame ≤ length (now frame)) ⌝ }
+    ensures { λ r. ⌜ ((law : Law.Settings) → Says law member (Events.arrival (lawOf law) (groupOf member) (member .own) (heldIn held)
+        (found (member .n) (member .m) (now (bytes .entry)))) r (now (frame .entry)) (now (frame .exit))) ⌝ }
 {
-    let n = replica.settings.law.n;
-    let m = replica.settings.law.m;
-    let parsed = frame::read(n, m, bytes);
+    let parsed = frame::read(member.n, member.m, bytes);
     let answer = parsed.answer;
     if frame::number_of(answer) != 0 {
-        return refused(replica, 8);
+        return refused_rule(held, 8);
     }
     let f = parsed.frame;
-    arrive_frame(replica, f, frame, command)
+    arrive_frame(member, held, f, frame)
 }

@@ -8,10 +8,13 @@ mod rules;
 ghost use mathlib.Core.Path.{_≡_};
 ghost use lib.ListN.{length};
 ghost use Rattle.replica.specs.Calls.{tickOutcome, giveUpOutcome, arriveOutcome, Gives, madeAnswer, made};
+ghost use Rattle.replica.specs.Rules.{steppedBy};
 use arrivals::arrive_bytes;
+use estimate::Estimate;
 use moves::blank_settings;
 use moves::fresh;
 use moves::ticked;
+use output::issue;
 use readings::Readings;
 use refusals::refused;
 use refusals::settings_refusal;
@@ -34,23 +37,25 @@ pub struct Best {
     pub box_number: u8,
     pub base_view: u32,
     pub base_period: u32,
-    pub state: [i32; 6],
-    pub readings: Readings,
+    pub estimate: Estimate,
 }
 
-// What a replica holds. Place j of heard is for box j.
-pub struct Replica {
-    pub settings: Settings,
+// What a replica holds besides its settings, which no event changes. Place j of heard is for box j.
+pub struct Held {
     pub period: u32,
     pub view: u32,
     pub base_view: u32,
     pub view_change: bool,
     pub decided: bool,
-    pub state: [i32; 6],
-    pub readings: Readings,
+    pub estimate: Estimate,
     pub base_period: u32,
     pub heard: [bool; 10],
     pub best: Best,
+}
+
+pub struct Replica {
+    pub settings: Settings,
+    pub held: Held,
 }
 
 // What a step gives back: its answer, the replica, and the lengths written to the two lent areas, 0 where nothing was.
@@ -67,13 +72,30 @@ pub struct Made {
     pub replica: Replica,
 }
 
+// The few numbers of the settings that the rules need: N, the own number, and the sizes of a frame.
+struct Member {
+    boxes: u8,
+    own: u8,
+    n: usize,
+    m: usize,
+}
+
+// What a rule gives: the answer, what is held then, the length of the frame sent, and whether the command of the estimate held is issued.
+struct Moved {
+    answer: Answer,
+    held: Held,
+    frame: usize,
+    issues: bool,
+}
+
 impl Replica {
     // A fresh replica.
     pub fn make(settings: Settings) -> Made
         ensures answer { λ r. ⌜ r .answer ≡ madeAnswer settings ⌝ }
         ensures replica { λ r. ⌜ r .replica ≡ made settings ⌝ }
     {
-        let number = settings_refusal(settings);
+        let law = settings.law;
+        let number = settings_refusal(settings.boxes, settings.own, law::check(law));
         if number != 0 {
             let replica = fresh(blank_settings());
             return Made {
@@ -88,20 +110,42 @@ impl Replica {
         }
     }
 
-    // A tick with readings.
+    // A tick with readings. The update's own look at the settings is the step's.
     pub fn tick(self, readings: Readings, frame: &mut [u8], command: &mut [u8]) -> Stepped
         ensures { λ r. ⌜ Gives (self .settings) (tickOutcome self readings (length (now (frame .entry))) (length (now (command .entry))))
             r (now (frame .entry)) (now (frame .exit)) (now (command .entry)) (now (command .exit)) ⌝ }
     {
-        let number = step_refusal(self, frame.len(), command.len());
+        let boxes = self.settings.boxes;
+        let own = self.settings.own;
+        let n = self.settings.law.n;
+        let m = self.settings.law.m;
+        let estimate = self.held.estimate;
+        let updated = law::tables::update(
+            n,
+            m,
+            self.settings.law.p,
+            &self.settings.law.a,
+            &self.settings.law.l,
+            &self.settings.law.c,
+            &self.settings.law.k,
+            &self.settings.law.low,
+            &self.settings.law.high,
+            &estimate.state,
+            estimate.readings,
+        );
+        let answer = updated.answer;
+        let number = step_refusal(boxes, own, answer, frame.len(), command.len());
         if number != 0 {
             return refused(self, number);
         }
-        let number = tick_refusal(self, readings);
+        let number = tick_refusal(self.held, m, readings);
         if number != 0 {
             return refused(self, number);
         }
-        after_tick(ticked(self, readings), frame)
+        let state = updated.state;
+        let next = ticked(self.held, m, state, readings);
+        let moved = after_tick(Member { boxes, own, n, m }, next, frame);
+        step_of(self.settings, moved, 0)
     }
 
     // The view is given up.
@@ -109,11 +153,27 @@ impl Replica {
         ensures { λ r. ⌜ Gives (self .settings) (giveUpOutcome self (length (now (frame .entry))) (length (now (command .entry))))
             r (now (frame .entry)) (now (frame .exit)) (now (command .entry)) (now (command .exit)) ⌝ }
     {
-        let number = step_refusal(self, frame.len(), command.len());
+        let boxes = self.settings.boxes;
+        let own = self.settings.own;
+        let n = self.settings.law.n;
+        let m = self.settings.law.m;
+        let checked = law::tables::check(
+            n,
+            m,
+            self.settings.law.p,
+            &self.settings.law.a,
+            &self.settings.law.l,
+            &self.settings.law.c,
+            &self.settings.law.k,
+            &self.settings.law.low,
+            &self.settings.law.high,
+        );
+        let number = step_refusal(boxes, own, checked, frame.len(), command.len());
         if number != 0 {
             return refused(self, number);
         }
-        give_up_view(self, frame)
+        let moved = give_up_view(Member { boxes, own, n, m }, self.held, frame);
+        step_of(self.settings, moved, 0)
     }
 
     // Bytes that arrive as a frame.
@@ -121,10 +181,56 @@ impl Replica {
         ensures { λ r. ⌜ Gives (self .settings) (arriveOutcome self (now (bytes .entry)) (length (now (frame .entry))) (length (now (command .entry))))
             r (now (frame .entry)) (now (frame .exit)) (now (command .entry)) (now (command .exit)) ⌝ }
     {
-        let number = step_refusal(self, frame.len(), command.len());
+        let boxes = self.settings.boxes;
+        let own = self.settings.own;
+        let n = self.settings.law.n;
+        let m = self.settings.law.m;
+        let p = self.settings.law.p;
+        let checked = law::tables::check(
+            n,
+            m,
+            p,
+            &self.settings.law.a,
+            &self.settings.law.l,
+            &self.settings.law.c,
+            &self.settings.law.k,
+            &self.settings.law.low,
+            &self.settings.law.high,
+        );
+        let number = step_refusal(boxes, own, checked, frame.len(), command.len());
         if number != 0 {
             return refused(self, number);
         }
-        arrive_bytes(self, bytes, frame, command)
+        let moved = arrive_bytes(Member { boxes, own, n, m }, self.held, bytes, frame);
+        let issued = issue(
+            moved.issues,
+            moved.held,
+            n,
+            m,
+            p,
+            &self.settings.law.a,
+            &self.settings.law.l,
+            &self.settings.law.c,
+            &self.settings.law.k,
+            &self.settings.law.low,
+            &self.settings.law.high,
+            command,
+        );
+        step_of(self.settings, moved, issued)
+    }
+}
+
+// What a rule leaves, beside the settings, which stay.
+fn step_of(settings: Settings, moved: Moved, command: usize) -> Stepped
+    ensures { λ r. ⌜ r ≡ steppedBy settings moved command ⌝ }
+{
+    let held = moved.held;
+    let answer = moved.answer;
+    let replica = Replica { settings, held };
+    Stepped {
+        answer,
+        replica,
+        frame: moved.frame,
+        command,
     }
 }

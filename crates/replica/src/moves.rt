@@ -1,32 +1,33 @@
-// What a replica holds after each move: a fresh one, the next period, a view entered, a frame adopted, an estimate proposed, a box heard.
+// What is held after each move: the next period, a view entered, a frame adopted, an estimate proposed, a box heard; and what is made.
 ghost use mathlib.Core.Path.{_≡_};
 ghost use Prim.Native.Nat.{_<_, _≤_};
-ghost use Rattle.readings.specs.Places.{entry, filled};
+ghost use Rattle.lists.specs.Places.{entry, filled};
 ghost use Rattle.readings.specs.Readings.{normalised};
 ghost use lib.IntN.{pos};
-ghost use Rattle.scram.specs.Replica as Scram;
+ghost use Rattle.scram.specs.Held as Scram;
 ghost use Rattle.scram.specs.Events as Events;
 ghost use Rattle.scram.specs.Quorum.{nobody, with};
-ghost use Rattle.replica.specs.Settings.{lawOf};
-ghost use Rattle.replica.specs.Held.{heldBest, held, bestOf, replicaOf};
-ghost use Rattle.replica.specs.Calls.{blankSettings};
+ghost use Rattle.law.specs.declared.Settings as Law;
+ghost use Rattle.replica.specs.Settings.{lawOf, blankSettings};
+ghost use Rattle.replica.specs.Held.{estimateIn, bestIn, heldIn, bestOf, heldOf};
 use crate::Best;
+use crate::Held;
 use crate::Replica;
 use crate::Settings;
+use estimate::Estimate;
 use readings::Readings;
 
 // No estimate heard yet.
 fn no_best() -> Best
-    ensures { λ r. ⌜ r ≡ bestOf (Scram.noBest (lawOf blankSettings)) ⌝ }
+    ensures { λ r. ⌜ ((law : Law.Settings) → r ≡ bestOf (Scram.noBest (lawOf law))) ⌝ }
 {
-    let readings = readings::no_readings();
+    let estimate = estimate::no_estimate();
     Best {
         any: false,
         box_number: 0,
         base_view: 0,
         base_period: 0,
-        state: [0i32; 6],
-        readings,
+        estimate,
     }
 }
 
@@ -93,80 +94,78 @@ pub(crate) fn blank_settings() -> Settings
 // The fresh replica of settings.
 pub(crate) fn fresh(settings: Settings) -> Replica
     requires { ⌜ settings .law .n ≤ 6 ⌝ }
-    ensures { λ r. ⌜ r ≡ replicaOf settings (Scram.fresh (lawOf settings)) ⌝ }
+    ensures { λ r. ⌜ r ≡ record { settings = settings; held = heldOf (Scram.fresh (lawOf (settings .law))) } ⌝ }
 {
     let start = settings.law.start;
     let n = settings.law.n;
     let state = first_values(start, n);
     let readings = readings::no_readings();
+    let estimate = Estimate { state, readings };
     let best = no_best();
-    Replica {
-        settings,
+    let held = Held {
         period: 0,
         view: 0,
         base_view: 0,
         view_change: false,
         decided: false,
-        state,
-        readings,
+        estimate,
         base_period: 0,
         heard: [false; 10],
         best,
-    }
+    };
+    Replica { settings, held }
 }
 
-// The state that the next period starts from: no update on the first tick.
-fn next_state(replica: Replica) -> [i32; 6]
-    ensures { λ r. ⌜ r ≡ Events.nextState (lawOf (replica .settings)) (held replica) ⌝ }
+// The next period, which starts from the state that an update of the estimate gave, but for the first tick.
+pub(crate) fn ticked(held: Held, m: usize, updated: [i32; 6], readings: Readings) -> Held
+    requires { ⌜ held .period < 4294967295 ⌝ }
+    ensures { λ r. ⌜ ((law : Law.Settings) → updated ≡ lawOf law .update (held .estimate .state) (held .estimate .readings)
+        → r ≡ heldOf (Events.ticked (lawOf law) (heldIn held) (normalised m readings))) ⌝ }
 {
-    let state = replica.state;
-    if replica.period == 0 {
-        return state;
-    }
-    let law = replica.settings.law;
-    let readings = replica.readings;
-    let updated = law::update(law, state, readings);
-    let next = updated.state;
-    next
-}
-
-// The next period.
-pub(crate) fn ticked(replica: Replica, readings: Readings) -> Replica
-    requires { ⌜ replica .period < 4294967295 ⌝ }
-    ensures { λ r. ⌜ r ≡ replicaOf (replica .settings) (Events.ticked (lawOf (replica .settings)) (held replica) (normalised (replica .settings .law .m) readings)) ⌝ }
-{
-    let state = next_state(replica);
-    let m = replica.settings.law.m;
+    let state = next_state(held, updated);
     let taken = readings::normalise(m, readings);
+    let estimate = Estimate {
+        state,
+        readings: taken,
+    };
     let best = no_best();
-    let mut next = replica;
-    next.period = replica.period + 1;
+    let mut next = held;
+    next.period = held.period + 1;
     next.decided = false;
-    next.state = state;
-    next.readings = taken;
+    next.estimate = estimate;
     next.heard = [false; 10];
     next.best = best;
     next
 }
 
-// A view entered as its coordinator.
-pub(crate) fn entered(replica: Replica, view: u32) -> Replica
-    requires { ⌜ replica .settings .own < 10 ⌝ }
-    ensures { λ r. ⌜ r ≡ replicaOf (replica .settings) (Events.entered (replica .settings .own) (held replica) view) ⌝ }
+// The state that the next period starts from: no update on the first tick.
+fn next_state(held: Held, updated: [i32; 6]) -> [i32; 6]
+    ensures { λ r. ⌜ ((law : Law.Settings) → updated ≡ lawOf law .update (held .estimate .state) (held .estimate .readings)
+        → r ≡ Events.nextState (lawOf law) (heldIn held)) ⌝ }
 {
-    let own = replica.settings.own;
-    let state = replica.state;
-    let readings = replica.readings;
+    if held.period == 0 {
+        let estimate = held.estimate;
+        let state = estimate.state;
+        return state;
+    }
+    updated
+}
+
+// A view entered as its coordinator.
+pub(crate) fn entered(own: u8, held: Held, view: u32) -> Held
+    requires { ⌜ own < 10 ⌝ }
+    ensures { λ r. ⌜ r ≡ heldOf (Events.entered own (heldIn held) view) ⌝ }
+{
+    let estimate = held.estimate;
     let best = Best {
         any: true,
         box_number: own,
-        base_view: replica.base_view,
-        base_period: replica.base_period,
-        state,
-        readings,
+        base_view: held.base_view,
+        base_period: held.base_period,
+        estimate,
     };
     let heard = only(own);
-    let mut next = replica;
+    let mut next = held;
     next.view = view;
     next.view_change = true;
     next.heard = heard;
@@ -175,11 +174,11 @@ pub(crate) fn entered(replica: Replica, view: u32) -> Replica
 }
 
 // A view entered as another box.
-pub(crate) fn following(replica: Replica, view: u32) -> Replica
-    ensures { λ r. ⌜ r ≡ replicaOf (replica .settings) (Events.following (lawOf (replica .settings)) (held replica) view) ⌝ }
+pub(crate) fn following(held: Held, view: u32) -> Held
+    ensures { λ r. ⌜ ((law : Law.Settings) → r ≡ heldOf (Events.following (lawOf law) (heldIn held) view)) ⌝ }
 {
     let best = no_best();
-    let mut next = replica;
+    let mut next = held;
     next.view = view;
     next.view_change = false;
     next.heard = [false; 10];
@@ -188,55 +187,47 @@ pub(crate) fn following(replica: Replica, view: u32) -> Replica
 }
 
 // View and estimate adopted from a frame.
-pub(crate) fn adopting(
-    replica: Replica,
-    view: u32,
-    state: [i32; 6],
-    readings: Readings,
-    decided: bool,
-) -> Replica
-    ensures { λ r. ⌜ r ≡ replicaOf (replica .settings) (Events.adopting (lawOf (replica .settings)) (held replica) view state readings decided) ⌝ }
+pub(crate) fn adopting(held: Held, view: u32, estimate: Estimate, decided: bool) -> Held
+    ensures { λ r. ⌜ ((law : Law.Settings) → r ≡ heldOf (Events.adopting (lawOf law) (heldIn held) view (estimateIn estimate) decided)) ⌝ }
 {
     let best = no_best();
-    let mut next = replica;
+    let mut next = held;
     next.view = view;
     next.base_view = view;
     next.view_change = false;
     next.decided = decided;
-    next.state = state;
-    next.readings = readings;
-    next.base_period = replica.period;
+    next.estimate = estimate;
+    next.base_period = held.period;
     next.heard = [false; 10];
     next.best = best;
     next
 }
 
 // An estimate proposed, with the coordinator's own acknowledgement.
-pub(crate) fn proposing(replica: Replica, state: [i32; 6], readings: Readings) -> Replica
-    requires { ⌜ replica .settings .own < 10 ⌝ }
-    ensures { λ r. ⌜ r ≡ replicaOf (replica .settings) (Events.proposing (lawOf (replica .settings)) (replica .settings .own) (held replica) state readings) ⌝ }
+pub(crate) fn proposing(own: u8, held: Held, estimate: Estimate) -> Held
+    requires { ⌜ own < 10 ⌝ }
+    ensures { λ r. ⌜ ((law : Law.Settings) → r ≡ heldOf (Events.proposing (lawOf law) own (heldIn held) (estimateIn estimate))) ⌝ }
 {
     let best = no_best();
-    let heard = only(replica.settings.own);
-    let mut next = replica;
-    next.base_view = replica.view;
+    let heard = only(own);
+    let mut next = held;
+    next.base_view = held.view;
     next.view_change = false;
-    next.state = state;
-    next.readings = readings;
-    next.base_period = replica.period;
+    next.estimate = estimate;
+    next.base_period = held.period;
     next.heard = heard;
     next.best = best;
     next
 }
 
 // One box more heard, and the best estimate then.
-pub(crate) fn hearing(replica: Replica, box_number: u8, best: Best, decided: bool) -> Replica
+pub(crate) fn hearing(held: Held, box_number: u8, best: Best, decided: bool) -> Held
     requires { ⌜ «box_number» < 10 ⌝ }
-    ensures { λ r. ⌜ r ≡ replicaOf (replica .settings) (Events.hearing (held replica) «box_number» (heldBest best) decided) ⌝ }
+    ensures { λ r. ⌜ r ≡ heldOf (Events.hearing (heldIn held) «box_number» (bestIn best) decided) ⌝ }
 {
-    let before = replica.heard;
+    let before = held.heard;
     let heard = with_box(before, box_number);
-    let mut next = replica;
+    let mut next = held;
     next.decided = decided;
     next.heard = heard;
     next.best = best;
@@ -245,7 +236,7 @@ pub(crate) fn hearing(replica: Replica, box_number: u8, best: Best, decided: boo
 
 // The better of two estimates.
 pub(crate) fn better(b: Best, c: Best) -> Best
-    ensures { λ r. ⌜ r ≡ bestOf (Events.better (heldBest b) (heldBest c)) ⌝ }
+    ensures { λ r. ⌜ r ≡ bestOf (Events.better (bestIn b) (bestIn c)) ⌝ }
 {
     if !b.any {
         return c;

@@ -1,10 +1,14 @@
 // Refusals 1 to 7 and 12, which need no frame: the settings, the lent areas, and the tick.
 ghost use mathlib.Core.Path.{_≡_};
+ghost use Rattle.law.specs.declared.Settings as Law;
+ghost use Rattle.law.specs.Answer.{number};
+ghost use Rattle.law.specs.Settings.{refusal};
 ghost use Rattle.replica.specs.Settings.{badGroup, settingsRefusal};
 ghost use Rattle.replica.specs.Calls.{shortArea, stepRefusal};
-ghost use Rattle.replica.specs.Rules.{tickRefusal, refusedStep, ignoredStep};
+ghost use Rattle.replica.specs.Rules.{tickRefusal, refusedStep, refusedRule, ignoredRule};
+use crate::Held;
+use crate::Moved;
 use crate::Replica;
-use crate::Settings;
 use crate::Stepped;
 use readings::Readings;
 use scram::Answer;
@@ -25,33 +29,31 @@ fn bad_group(n: u8, own: u8) -> bool
     n < own
 }
 
-// The number of the refusal of settings, or 0.
-pub(crate) fn settings_refusal(s: Settings) -> u8
-    ensures { λ r. ⌜ r ≡ settingsRefusal s ⌝ }
+// The number of the refusal of settings, or 0: 1, then the law's own answer.
+pub(crate) fn settings_refusal(boxes: u8, own: u8, law: law::Answer) -> u8
+    ensures { λ r. ⌜ ((s : Law.Settings) → number law ≡ refusal s → r ≡ settingsRefusal (record { boxes = boxes; own = own; law = s })) ⌝ }
 {
-    if bad_group(s.boxes, s.own) {
+    if bad_group(boxes, own) {
         return 1;
     }
-    let law = s.law;
-    law::number_of(law::check(law))
+    law::number_of(law)
 }
 
 // 5: an area is shorter than the longest frame or command.
 fn short_area(frame: usize, command: usize) -> bool
     ensures { λ r. ⌜ r ≡ shortArea frame command ⌝ }
 {
-    if frame < 69 {
+    if frame < frame::lengths::LONGEST_FRAME {
         return true;
     }
-    command < 24
+    command < frame::lengths::LONGEST_COMMAND
 }
 
 // The number of the refusal of any step, or 0: 1 to 4 for the settings, then 5 for the areas.
-pub(crate) fn step_refusal(replica: Replica, frame: usize, command: usize) -> u8
-    ensures { λ r. ⌜ r ≡ stepRefusal replica frame command ⌝ }
+pub(crate) fn step_refusal(boxes: u8, own: u8, law: law::Answer, frame: usize, command: usize) -> u8
+    ensures { λ r. ⌜ ((s : Law.Settings) → number law ≡ refusal s → r ≡ stepRefusal (record { boxes = boxes; own = own; law = s }) frame command) ⌝ }
 {
-    let settings = replica.settings;
-    let number = settings_refusal(settings);
+    let number = settings_refusal(boxes, own, law);
     if number != 0 {
         return number;
     }
@@ -62,18 +64,17 @@ pub(crate) fn step_refusal(replica: Replica, frame: usize, command: usize) -> u8
 }
 
 // The number of the refusal of a tick, or 0: 6, then 7, then 12 where the view would be raised.
-pub(crate) fn tick_refusal(replica: Replica, readings: Readings) -> u8
-    ensures { λ r. ⌜ r ≡ tickRefusal replica readings ⌝ }
+pub(crate) fn tick_refusal(held: Held, m: usize, readings: Readings) -> u8
+    ensures { λ r. ⌜ r ≡ tickRefusal held m readings ⌝ }
 {
-    if 4294967295 <= replica.period {
+    if 4294967295 <= held.period {
         return 6;
     }
-    let m = replica.settings.law.m;
     if readings::has_stray_mark(m, readings) {
         return 7;
     }
-    if replica.view_change {
-        if 4294967295 <= replica.view {
+    if held.view_change {
+        if 4294967295 <= held.view {
             return 12;
         }
     }
@@ -92,14 +93,26 @@ pub(crate) fn refused(replica: Replica, number: u8) -> Stepped
     }
 }
 
-// An ignored step: nothing has changed.
-pub(crate) fn ignored(replica: Replica) -> Stepped
-    ensures { λ r. ⌜ r ≡ ignoredStep replica ⌝ }
+// A refusal by a rule: nothing has changed.
+pub(crate) fn refused_rule(held: Held, number: u8) -> Moved
+    ensures { λ r. ⌜ r ≡ refusedRule held number ⌝ }
 {
-    Stepped {
-        answer: Answer::Ignored,
-        replica,
+    Moved {
+        answer: Answer::Refused(number),
+        held,
         frame: 0,
-        command: 0,
+        issues: false,
+    }
+}
+
+// An event ignored: nothing has changed.
+pub(crate) fn ignored(held: Held) -> Moved
+    ensures { λ r. ⌜ r ≡ ignoredRule held ⌝ }
+{
+    Moved {
+        answer: Answer::Ignored,
+        held,
+        frame: 0,
+        issues: false,
     }
 }

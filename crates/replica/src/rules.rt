@@ -1,156 +1,148 @@
 // The rules that need no frame: proposing, raising the view, what follows a tick, and giving up.
 ghost use mathlib.Core.Path.{_≡_};
 ghost use mathlib.Core.Bool.{true, not, _&&_};
-ghost use mathlib.Core.List.{[]};
 ghost use Prim.Native.Nat.{_≤_, _<_};
 ghost use lib.ListN.{length};
-ghost use Rattle.replica.specs.Settings.{settingsRefusal};
-ghost use Rattle.replica.specs.Calls.{Gives};
-ghost use Rattle.replica.specs.Rules.{leading, proposed, followed, raised, afterTick, givenUp};
-use crate::Replica;
-use crate::Stepped;
+ghost use Rattle.law.specs.declared.Settings as Law;
+ghost use Rattle.frame.specs.Lengths.{longestFrame};
+ghost use Rattle.scram.specs.Events as Events;
+ghost use Rattle.replica.specs.Settings.{Fit, lawOf, groupOf};
+ghost use Rattle.replica.specs.Held.{estimateIn, heldIn};
+ghost use Rattle.replica.specs.Rules.{Says, followed};
+use crate::Held;
+use crate::Member;
+use crate::Moved;
 use crate::moves::entered;
 use crate::moves::following;
 use crate::moves::proposing;
 use crate::output::send;
 use crate::refusals::ignored;
-use crate::refusals::refused;
+use crate::refusals::refused_rule;
+use estimate::Estimate;
 use frame::Frame;
-use readings::Readings;
 use scram::Answer;
 
-// Whether a replica's box coordinates a view.
-fn leads(replica: Replica, view: u32) -> bool
-    ensures { λ r. ⌜ r ≡ leading replica view ⌝ }
+// Whether a box coordinates a view.
+fn leads(member: Member, view: u32) -> bool
+    ensures { λ r. ⌜ r ≡ Events.leads (groupOf member) (member .own) view ⌝ }
 {
-    replica.settings.own == scram::quorum::coordinator(replica.settings.boxes, view)
+    member.own == scram::quorum::coordinator(member.boxes, view)
 }
 
 // Propose goes to all others.
-pub(crate) fn propose(
-    replica: Replica,
-    state: [i32; 6],
-    readings: Readings,
-    frame: &mut [u8],
-) -> Stepped
-    requires { ⌜ (settingsRefusal (replica .settings) ≡ 0) × (69 ≤ length (now frame)) ⌝ }
-    ensures { λ r. ⌜ Gives (replica .settings) (proposed replica state readings) r (now (frame .entry)) (now (frame .exit)) [] [] ⌝ }
+pub(crate) fn propose(member: Member, held: Held, estimate: Estimate, frame: &mut [u8]) -> Moved
+    requires { ⌜ Fit member × (longestFrame ≤ length (now frame)) ⌝ }
+    ensures { λ r. ⌜ ((law : Law.Settings) → Says law member (Events.propose (lawOf law) (groupOf member) (member .own) (heldIn held) (estimateIn estimate))
+        r (now (frame .entry)) (now (frame .exit))) ⌝ }
 {
-    let own = replica.settings.own;
-    let n = replica.settings.law.n;
-    let m = replica.settings.law.m;
-    let next = proposing(replica, state, readings);
+    let next = proposing(member.own, held, estimate);
     let proposal = Frame {
-        kind: 1,
-        sender: own,
-        period: replica.period,
-        view: replica.view,
-        base_view: replica.view,
-        base_period: replica.period,
-        state,
-        readings,
+        kind: frame::kinds::PROPOSE,
+        sender: member.own,
+        period: held.period,
+        view: held.view,
+        base_view: held.view,
+        base_period: held.period,
+        estimate,
     };
-    let length = send(n, m, proposal, frame);
-    Stepped {
+    let length = send(member.n, member.m, proposal, frame);
+    Moved {
         answer: Answer::Done,
-        replica: next,
+        held: next,
         frame: length,
-        command: 0,
+        issues: false,
     }
 }
 
 // A view entered as another box: the Estimate goes to the new coordinator.
-fn follow(replica: Replica, view: u32, frame: &mut [u8]) -> Stepped
-    requires { ⌜ (settingsRefusal (replica .settings) ≡ 0) × (69 ≤ length (now frame)) ⌝ }
-    ensures { λ r. ⌜ Gives (replica .settings) (followed replica view) r (now (frame .entry)) (now (frame .exit)) [] [] ⌝ }
+fn follow(member: Member, held: Held, view: u32, frame: &mut [u8]) -> Moved
+    requires { ⌜ Fit member × (longestFrame ≤ length (now frame)) ⌝ }
+    ensures { λ r. ⌜ ((law : Law.Settings) → Says law member (followed law member (heldIn held) view) r (now (frame .entry)) (now (frame .exit))) ⌝ }
 {
-    let own = replica.settings.own;
-    let n = replica.settings.law.n;
-    let m = replica.settings.law.m;
-    let next = following(replica, view);
-    let state = replica.state;
-    let readings = replica.readings;
-    let estimate = Frame {
-        kind: 4,
-        sender: own,
-        period: replica.period,
+    let next = following(held, view);
+    let estimate = held.estimate;
+    let own_estimate = Frame {
+        kind: frame::kinds::ESTIMATE,
+        sender: member.own,
+        period: held.period,
         view,
-        base_view: replica.base_view,
-        base_period: replica.base_period,
-        state,
-        readings,
+        base_view: held.base_view,
+        base_period: held.base_period,
+        estimate,
     };
-    let length = send(n, m, estimate, frame);
-    Stepped {
+    let length = send(member.n, member.m, own_estimate, frame);
+    Moved {
         answer: Answer::Done,
-        replica: next,
+        held: next,
         frame: length,
-        command: 0,
+        issues: false,
     }
 }
 
 // The view is raised by 1.
-fn raise(replica: Replica, frame: &mut [u8]) -> Stepped
-    requires { ⌜ (settingsRefusal (replica .settings) ≡ 0) × (69 ≤ length (now frame)) × (replica .view < 4294967295) ⌝ }
-    ensures { λ r. ⌜ Gives (replica .settings) (raised replica) r (now (frame .entry)) (now (frame .exit)) [] [] ⌝ }
+fn raise(member: Member, held: Held, frame: &mut [u8]) -> Moved
+    requires { ⌜ Fit member × (longestFrame ≤ length (now frame)) × (held .view < 4294967295) ⌝ }
+    ensures { λ r. ⌜ ((law : Law.Settings) → Says law member (Events.raise (lawOf law) (groupOf member) (member .own) (heldIn held))
+        r (now (frame .entry)) (now (frame .exit))) ⌝ }
 {
-    let view = replica.view + 1;
-    if leads(replica, view) {
-        let next = entered(replica, view);
-        return Stepped {
+    let view = held.view + 1;
+    if leads(member, view) {
+        let next = entered(member.own, held, view);
+        return Moved {
             answer: Answer::Done,
-            replica: next,
+            held: next,
             frame: 0,
-            command: 0,
+            issues: false,
         };
     }
-    follow(replica, view, frame)
+    follow(member, held, view, frame)
 }
 
 // What follows a tick: in view-change mode the view is raised, in normal mode a coordinator proposes.
-pub(crate) fn after_tick(replica: Replica, frame: &mut [u8]) -> Stepped
-    requires { ⌜ (settingsRefusal (replica .settings) ≡ 0) × (69 ≤ length (now frame)) × (replica .«view_change» ≡ true → replica .view < 4294967295) ⌝ }
-    ensures { λ r. ⌜ Gives (replica .settings) (afterTick replica) r (now (frame .entry)) (now (frame .exit)) [] [] ⌝ }
+pub(crate) fn after_tick(member: Member, held: Held, frame: &mut [u8]) -> Moved
+    requires { ⌜ Fit member × (longestFrame ≤ length (now frame)) × (held .«view_change» ≡ true → held .view < 4294967295) ⌝ }
+    ensures { λ r. ⌜ ((law : Law.Settings) → Says law member (Events.afterTick (lawOf law) (groupOf member) (member .own) (heldIn held))
+        r (now (frame .entry)) (now (frame .exit))) ⌝ }
 {
-    if replica.view_change {
-        return raise(replica, frame);
+    if held.view_change {
+        return raise(member, held, frame);
     }
-    if leads(replica, replica.view) {
-        let state = replica.state;
-        let readings = replica.readings;
-        return propose(replica, state, readings, frame);
+    if leads(member, held.view) {
+        let estimate = held.estimate;
+        return propose(member, held, estimate, frame);
     }
-    Stepped {
+    Moved {
         answer: Answer::Done,
-        replica,
+        held,
         frame: 0,
-        command: 0,
+        issues: false,
     }
 }
 
 // Giving up the view raises it, unless the box coordinates it in normal mode.
-pub(crate) fn give_up_view(replica: Replica, frame: &mut [u8]) -> Stepped
-    requires { ⌜ (settingsRefusal (replica .settings) ≡ 0) × (69 ≤ length (now frame)) ⌝ }
-    ensures { λ r. ⌜ Gives (replica .settings) (givenUp replica) r (now (frame .entry)) (now (frame .exit)) [] [] ⌝ }
+pub(crate) fn give_up_view(member: Member, held: Held, frame: &mut [u8]) -> Moved
+    requires { ⌜ Fit member × (longestFrame ≤ length (now frame)) ⌝ }
+    ensures { λ r. ⌜ ((law : Law.Settings) → Says law member (Events.giveUp (lawOf law) (groupOf member) (member .own) (heldIn held))
+        r (now (frame .entry)) (now (frame .exit))) ⌝ }
 {
-    if scram::ignored::idle(replica.period, replica.decided) {
-        return ignored(replica);
+    if scram::ignored::idle(held.period, held.decided) {
+        return ignored(held);
     }
-    if normal_coordinator(replica) {
-        return ignored(replica);
+    if normal_coordinator(member, held) {
+        return ignored(held);
     }
-    if 4294967295 <= replica.view {
-        return refused(replica, 12);
+    if 4294967295 <= held.view {
+        return refused_rule(held, 12);
     }
-    raise(replica, frame)
+    raise(member, held, frame)
 }
 
 // Whether the box coordinates its view in normal mode.
-fn normal_coordinator(replica: Replica) -> bool
-    ensures { λ r. ⌜ r ≡ (not (replica .«view_change») && leading replica (replica .view)) ⌝ }
+fn normal_coordinator(member: Member, held: Held) -> bool
+    ensures { λ r. ⌜ r ≡ (not (held .«view_change») && Events.leads (groupOf member) (member .own) (held .view)) ⌝ }
 {
-    if replica.view_change {
+    if held.view_change {
         return false;
     }
-    leads(replica, replica.view)
+    leads(member, held.view)
 }

@@ -1,79 +1,44 @@
-// The bench for any group: the first line of standard input describes it, and the lines behind are played.
-use libc::STDOUT_FILENO;
-use replica::Replica;
-use replica::Settings;
-use scram::Answer;
-use script::opening::Opening;
+// The bench for any group: the first line of standard input describes it, and the lines behind are played. What it prints of them is `rigOutput` of
+// script/specs/Script.antt, by the contract of `script::output::rig`. The lines so far are played again whenever more come, and what is new is printed,
+// so that lines typed at a terminal are answered at once.
+use console::CHUNK;
+use script::output::OUTPUT;
 
-// `r` and the number of a refusal, alone.
-fn print_refusal(number: u8) {
-    let mut text = [0u8; 256];
-    let n = script::printing::refusal_line(&mut text, number);
-    script::run::print(&text, n);
+// The first line and at most 500 others, each cut at 2,048 bytes, and their line feeds.
+const LINES: usize = 501;
+
+const TEXT: usize = 1026549;
+
+// Plays a text, prints what is new, and tells how much was printed then.
+fn play(text: &[u8], output: &mut [u8; OUTPUT], printed: usize) -> usize {
+    let n = script::output::rig(text, output);
+    console::write_more(output, printed, n);
+    n
 }
 
-// Whether the first line is of the form; `bad` or the refusal of its sizes is printed where it is not.
-fn is_opened(opening: Opening) -> bool {
-    match opening {
-        Opening::Bad => {
-            io::write_all(STDOUT_FILENO, b"bad\n");
-            false
+// Nothing is printed before the first line is whole, or the input ended.
+fn run(chunk: &mut [u8; CHUNK], text: &mut [u8; TEXT], output: &mut [u8; OUTPUT]) {
+    let mut gathered = console::nothing();
+    let mut printed = 0;
+    let mut played = 0;
+    let mut turns = u64::MAX;
+    while 0 < turns {
+        turns -= 1;
+        gathered = console::read_more(gathered, LINES, chunk, text);
+        let size = console::ready(gathered);
+        if (played < size) | (gathered.ended & (printed == 0)) {
+            printed = play(console::first(text, size), output, printed);
+            played = size;
         }
-        Opening::Refused(number) => {
-            print_refusal(number);
-            false
-        }
-        Opening::Ready => true,
-    }
-}
-
-// Whether making takes the settings; the refusal is printed where it does not.
-fn is_made(settings: Settings) -> bool {
-    let made = Replica::make(settings);
-    let answer = made.answer;
-    match answer {
-        Answer::Done => true,
-        Answer::Ignored => true,
-        Answer::Refused(number) => {
-            print_refusal(number);
-            false
+        if gathered.ended {
+            return;
         }
     }
-}
-
-// The number of readings, which settings that are made have at most four of.
-fn readings_in(m: usize) -> u8 {
-    if m < 5 { m as u8 } else { 4 }
 }
 
 fn main() {
-    let mut chunk = [0u8; 4096];
-    let mut line = [0u8; 2048];
-    let mut table = [0u8; 34569];
-    let mut lengths = [0usize; 501];
-    let read = script::run::read_line(script::run::start(), &mut chunk, &mut line);
-    let n = read.size;
-    let opened = script::opening::open(&line[0..n]);
-    let opening = opened.opening;
-    if !is_opened(opening) {
-        return;
-    }
-    let settings = opened.settings;
-    if !is_made(settings) {
-        return;
-    }
-    io::write_all(STDOUT_FILENO, b"no who answer k v vb kb x frame command\n");
-    let replicas = script::play::fresh(settings);
-    let m = readings_in(settings.law.m);
-    let input = read.input;
-    script::run::run(
-        replicas,
-        settings.boxes,
-        m,
-        input,
-        &mut chunk,
-        &mut line,
-        &mut table,
-        &mut lengths,
-    );
+    let mut chunk = [0u8; CHUNK];
+    let mut text = [0u8; TEXT];
+    let mut output = [0u8; OUTPUT];
+    run(&mut chunk, &mut text, &mut output);
 }

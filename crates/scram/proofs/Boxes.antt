@@ -1,12 +1,13 @@
 -- Sets of boxes: two sets of the boxes 1 to n whose sizes add up to more than n share a box; the boxes heard. Assumes nothing.
 use mathlib.Core.Path.{_≡_, refl}
 use mathlib.Core.Logic.{_⊎_, inl, inr}
-use mathlib.Core.Bool.{Bool, true, false, cond}
+use mathlib.Core.Bool.{Bool, true, false}
 use mathlib.Core.List.{List, [], _∷_}
 use Prim.Native.Nat.{ℕ, zero, suc, _+_, _<_}
 use native.Mathlib.Omega.{arith}
 use lib.Dec.{T}
 use lib.ListN.{replicate}
+use Rattle.lists.specs.Choice.{pick}
 use Rattle.scram.specs.Quorum.{majority, nobody, among, with, count}
 
 -- "3 gives 2, 4 gives 3, 9 gives 5": two majorities are more than the group
@@ -15,12 +16,12 @@ unfolding majority
 two-majorities n = omega arith
 
 pub meet : (p q : ℕ → Bool) (n : ℕ) → n < count p n + count q n → (i : ℕ) × T (p i) × T (q i)
-unfolding count
+unfolding count pick
 meet p q zero h = absurd (omega arith)
 meet p q (suc n) h = go (p (suc n)) (q (suc n)) refl refl (meet p q n) h
   where
     go : (b c : Bool) → p (suc n) ≡ b → q (suc n) ≡ c → (n < count p n + count q n → (i : ℕ) × T (p i) × T (q i))
-        → suc n < (cond b 1 0 + count p n) + (cond c 1 0 + count q n) → (i : ℕ) × T (p i) × T (q i)
+        → suc n < (pick b 1 0 + count p n) + (pick c 1 0 + count q n) → (i : ℕ) × T (p i) × T (q i)
     go true true e f ih l = (suc n, rw e tt, rw f tt)
     go true false e f ih l = ih (omega arith)
     go false true e f ih l = ih (omega arith)

@@ -6,17 +6,21 @@ use mathlib.Core.Option.{Option, none, some}
 use Prim.Native.Nat.{ℕ, _+_, _/_}
 use lib.ListN.{getD}
 use lib.Dec.{eqb}
+use Rattle.lists.specs.Choice.{pick}
 use Rattle.scram.specs.Quorum.{majority, coordinator, beats, count}
-use Rattle.scram.specs.Replica.{Law, Group, Replica, Message, Command, Answer, Done, Ignored, Outcome, fresh}
-use Rattle.scram.specs.Events.{pick, better, badSender, badPlace, badBase, unwanted, raise, afterTick, tick, giveUp, hearAck, hearEstimate, receive, arrive, arrival}
+use Rattle.scram.specs.Held.{Law, Group, Held, Message, Command, Answer, Outcome, fresh}
+use Rattle.scram.specs.declared.Answer.the-variants.{Done, Ignored}
+use Rattle.scram.specs.Events.{better, badSender, badPlace, badBase, unwanted}
+use Rattle.scram.specs.Events.{raise, afterTick, tick, giveUp, hearAck, hearEstimate, receive, arrive, arrival}
 
 -- the bench's law, on natural numbers: half of what the reading differs by is added
 abbrev halfway : ℕ → Option ℕ → ℕ
 halfway x none = x
 halfway x (some y) = (x + y) / 2
 
-abbrev law : Law ℕ (Option ℕ)
-law = record { update = halfway; start = 0; none = none; blank = 0 }
+-- a decision issues the updated state itself
+abbrev law : Law ℕ (Option ℕ) ℕ
+law = record { update = halfway; command = halfway; start = 0; none = none; blank = 0 }
 
 abbrev group : ℕ → Group
 group N = record { size = N; toDecide = majority N; toPropose = majority N; coordinator = coordinator N }
@@ -43,22 +47,22 @@ isSome : {A : Type 0} → Option A → Bool
 isSome none = false
 isSome (some x) = true
 
-state : Option (Command ℕ) → Option ℕ
-state none = none
-state (some c) = some (c .state)
+values : Option (Command ℕ) → Option ℕ
+values none = none
+values (some c) = some (c .values)
 
-printed : ℕ → Outcome ℕ (Option ℕ) → Printed
-unfolding isSome state
+printed : ℕ → Outcome ℕ (Option ℕ) ℕ → Printed
+unfolding isSome values
 printed box o = record {
   who = box;
   answer = o .answer;
-  k = o .replica .period;
-  v = o .replica .view;
-  vb = o .replica .baseView;
-  kb = o .replica .basePeriod;
-  x = o .replica .state;
+  k = o .held .period;
+  v = o .held .view;
+  vb = o .held .baseView;
+  kb = o .held .basePeriod;
+  x = o .held .estimate .state;
   frame = isSome (o .sent);
-  command = state (o .command);
+  command = values (o .command);
 }
 
 abbrev boxOf : Line → ℕ
@@ -66,18 +70,18 @@ boxOf (T i y) = i
 boxOf (G i) = i
 boxOf (D i f) = i
 
-act : ℕ → (ℕ → Replica ℕ (Option ℕ)) → List (Option (Message ℕ (Option ℕ))) → Line → Outcome ℕ (Option ℕ)
+act : ℕ → (ℕ → Held ℕ (Option ℕ)) → List (Option (Message ℕ (Option ℕ))) → Line → Outcome ℕ (Option ℕ) ℕ
 act N boxes sent (T i y) = tick law (group N) i (boxes i) false y
 act N boxes sent (G i) = giveUp law (group N) i (boxes i)
 act N boxes sent (D i f) = arrival law (group N) i (boxes i) (getD sent f none)
 
 -- the lines of a script, each with what its event gives
-play : ℕ → (ℕ → Replica ℕ (Option ℕ)) → List (Option (Message ℕ (Option ℕ))) → List Line → List Printed
+play : ℕ → (ℕ → Held ℕ (Option ℕ)) → List (Option (Message ℕ (Option ℕ))) → List Line → List Printed
 unfolding act printed
 play N boxes sent [] = []
 play N boxes sent (line ∷ lines) =
     printed (boxOf line) (act N boxes sent line)
-    ∷ play N (λ j. pick (eqb j (boxOf line)) (act N boxes sent line .replica) (boxes j)) (sent ++ (act N boxes sent line .sent ∷ [])) lines
+    ∷ play N (λ j. pick (eqb j (boxOf line)) (act N boxes sent line .held) (boxes j)) (sent ++ (act N boxes sent line .sent ∷ [])) lines
 
 abbrev prints : ℕ → Answer → ℕ → ℕ → ℕ → ℕ → ℕ → Bool → Option ℕ → Printed
 prints who answer k v vb kb x frame command = record {
@@ -105,7 +109,8 @@ bench : output 3 (T 1 (some 100) ∷ T 2 (some 102) ∷ D 2 0 ∷ D 1 2 ∷ D 2 
     ∷ prints 2 Done 1 0 0 1 0 false (some 50)
     ∷ prints 2 Done 2 0 0 1 50 false none
     ∷ []
-unfolding play act printed isSome state majority coordinator beats count pick better badSender badPlace badBase unwanted raise afterTick tick giveUp hearAck hearEstimate receive arrive arrival
+unfolding play act printed isSome values majority coordinator beats count pick better badSender badPlace badBase unwanted
+    raise afterTick tick giveUp hearAck hearEstimate receive arrive arrival
 bench = refl
 
 -- Box 1 of three decides period 1 with box 3 and stops. In period 2 box 3 gives view 0 up; box 2, which never heard of the decision, takes
@@ -125,5 +130,6 @@ take-over : output 3
     ∷ prints 2 Done 2 1 1 2 50 true (some 60)
     ∷ prints 2 Ignored 2 1 1 2 50 false none
     ∷ []
-unfolding play act printed isSome state majority coordinator beats count pick better badSender badPlace badBase unwanted raise afterTick tick giveUp hearAck hearEstimate receive arrive arrival
+unfolding play act printed isSome values majority coordinator beats count pick better badSender badPlace badBase unwanted
+    raise afterTick tick giveUp hearAck hearEstimate receive arrive arrival
 take-over = refl

@@ -9,7 +9,7 @@ use native.Mathlib.Omega.{arith}
 use lib.ListN.{length}
 use lib.Dec.{T}
 use Rattle.scram.specs.Quorum.{count}
-use Rattle.scram.specs.Replica.{Group}
+use Rattle.scram.specs.Held.{Group}
 use Rattle.scram.proofs.Boxes.{meet}
 use Rattle.scram.proofs.Rows.{Begins, begins-trans, AtMost, at-most-trans, at-most-total}
 
@@ -34,6 +34,10 @@ module _ {Row : Type 0} (facts : Facts Row) where
   abbrev pub Based : ℕ → ℕ → List Row → Type 0
   Based v k l = ((v ≡ 0) × (k ≡ 0)) ⊎ ((m : List Row) × facts .proposed v k m × Begins m l)
 
+  -- box i gave an estimate of view v in period k, with a base at or below this one
+  abbrev pub Gave : ℕ → ℕ → ℕ → ℕ → ℕ → Type 0
+  Gave i v k baseView basePeriod = (a b : ℕ) × (m : List Row) × facts .estimated i v k a b m × AtMost a b baseView basePeriod
+
   module _ (group : Group) where
     -- view v was opened for the rows l of period k: in one period not above k enough boxes gave estimates of that view, and l goes on
     -- from one whose base is the largest of them
@@ -46,8 +50,7 @@ module _ {Row : Type 0} (facts : Facts Row) where
       pub box : ℕ
       pub best : List Row
       pub given : facts .estimated box v period baseView basePeriod best
-      pub others : (i : ℕ) → T (who i)
-          → (a b : ℕ) × (m : List Row) × facts .estimated i v period a b m × AtMost a b baseView basePeriod
+      pub others : (i : ℕ) → T (who i) → Gave i v period baseView basePeriod
       pub early : period ≤ k
       pub goesOn : Begins best l
 

@@ -4,7 +4,7 @@ use mathlib.Core.Logic.{_⊎_, inl, inr}
 use mathlib.Core.List.{List}
 use Prim.Native.Nat.{ℕ, _≤_, _<_}
 use native.Mathlib.Omega.{arith}
-use Rattle.scram.specs.Replica.{Group}
+use Rattle.scram.specs.Held.{Group}
 use Rattle.scram.proofs.Rows.{Begins, all, AtMost}
 use Rattle.scram.proofs.Facts.{Facts, RowsTo, Based, Opened, Chosen, Consistent}
 
@@ -81,7 +81,8 @@ module _ {Row : Type 0} where
   among-estimated : (f : Facts Row) (i v k a b : ℕ) (l : List Row) → Among f (withEstimated f i v k a b l)
   among-estimated f i v k a b l = record { proposed = λ v k l p. p; accepted = λ i v k l p. p; estimated = λ i v k a b l p. inl p }
 
-  pub grown-proposed : {coordinator : ℕ → ℕ} {i : ℕ} (f : Facts Row) (v k : ℕ) (l : List Row) → coordinator v ≡ i → GrownAt coordinator i f (withProposed f v k l)
+  pub grown-proposed : {coordinator : ℕ → ℕ} {i : ℕ} (f : Facts Row) (v k : ℕ) (l : List Row) → coordinator v ≡ i
+      → GrownAt coordinator i f (withProposed f v k l)
   grown-proposed {coordinator} f v k l c = record {
     kept = among-proposed f v k l;
     proposed = λ v' k' l' p. or-map (λ q. ap coordinator (q .0) ∙ c) p;

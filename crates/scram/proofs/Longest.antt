@@ -1,4 +1,4 @@
--- Of the rows behind the commands one list goes on from all others: the longest. It gives the single controller's row for each period.
+-- Of the rows behind the decisions one list goes on from all others: the longest. It gives the single controller's row for each period.
 -- Assumes nothing.
 use mathlib.Core.Path.{_≡_, refl, _∙_}
 use mathlib.Core.Logic.{_⊎_, inl, inr}
@@ -7,14 +7,15 @@ use Prim.Native.Nat.{ℕ, suc, _+_, _≤_, _<_}
 use native.Mathlib.Omega.{arith}
 use lib.ListN.{length}
 use lib.Dec.{eqb, eqb→eq}
-use Rattle.scram.specs.Replica.{Law, Group, Command}
-use Rattle.scram.specs.Events.{pick}
-use Rattle.scram.specs.Demand3.{In}
-use Rattle.scram.proofs.Tests.{pick-ok, eqb-no}
+use Rattle.lists.specs.Choice.{pick}
+use Rattle.lists.proofs.Choice.{pick-ok}
+use Rattle.lists.proofs.Booleans.{eqb-no}
+use Rattle.scram.specs.Held.{Law, Group, Held}
+use Rattle.scram.specs.History.{In}
 use Rattle.scram.proofs.Rows.{Begins, all, then, begins-trans, begins-length, begins-nil, le-or-lt}
 use Rattle.scram.proofs.Facts.{Facts, EachFed, Chosen, Consistent, agree}
 use Rattle.scram.proofs.Growth.{or-map}
-use Rattle.scram.proofs.Ties.{run, CommandTells}
+use Rattle.scram.proofs.Ties.{Made, DecisionTells}
 
 -- the row of period k in a list of rows
 unfoldable pub rowAt : {Row : Type 0} → Row → List Row → ℕ → Row
@@ -45,45 +46,47 @@ module _ {Row : Type 0} (d : Row) where
       go ih (inl q) = rw (row-earlier y l k q) (ih q)
       go ih (inr q) = let e : k ≡ suc (length l) = omega arith in rw (e, row-last y l) (f .0)
 
-module _ {State Readings : Type 0} (law : Law State Readings) (group : Group) (fed : ℕ → Readings → Type 0) where
-  -- rows behind one of the commands, chosen for its period
-  abbrev pub Behind : Facts Readings → List (Command State) → List Readings → Type 0
-  Behind f cs l = (c : Command State) × (v : ℕ) × In c cs × f .proposed v (c .period) l × Chosen f group v (c .period) l
+module _ {State Readings Values Decision : Type 0} (law : Law State Readings Values) (group : Group) (fed : ℕ → Readings → Type 0)
+    (held : Decision → Held State Readings) where
+  -- rows behind one of the decisions, chosen for its period
+  abbrev pub Behind : Facts Readings → List Decision → List Readings → Type 0
+  Behind f ds l = (d : Decision) × (v : ℕ) × In d ds × f .proposed v (held d .period) l × Chosen f group v (held d .period) l
 
-  pub record Longest (f : Facts Readings) (cs : List (Command State)) : Type 0 where
+  -- rows that a decision's estimate was made from, a beginning of others
+  abbrev pub Served : List Readings → Decision → Type 0
+  Served rows d = (l : List Readings) × Begins l rows × (length l ≡ held d .period) × (1 ≤ held d .period) × Made law l (held d .estimate)
+
+  pub record Longest (f : Facts Readings) (ds : List Decision) : Type 0 where
     pub rows : List Readings
-    pub behind : (rows ≡ []) ⊎ Behind f cs rows
-    pub serves : (c : Command State) → In c cs → (l : List Readings) × Begins l rows × (length l ≡ c .period) × (1 ≤ c .period) × (c .state ≡ run law l)
+    pub behind : (rows ≡ []) ⊎ Behind f ds rows
+    pub serves : (d : Decision) → In d ds → Served rows d
 
   module _ (quorums : group .size < group .toDecide + group .toPropose) (f : Facts Readings) (ok : Consistent f group fed) where
-    pub longest : (cs : List (Command State)) → ((c : Command State) → In c cs → CommandTells law group fed f c) → Longest f cs
-    longest [] told = record { rows = []; behind = inl refl; serves = λ c p. absurd p }
-    longest (c ∷ cs) told = go (told c (inl refl)) (longest cs (λ c' p. told c' (inr p)))
+    pub longest : (ds : List Decision) → ((d : Decision) → In d ds → DecisionTells law group fed f (held d)) → Longest f ds
+    longest [] told = record { rows = []; behind = inl refl; serves = λ d p. absurd p }
+    longest (d ∷ ds) told = go (told d (inl refl)) (longest ds (λ d' p. told d' (inr p)))
       where
-        sized : (l : List Readings) (v : ℕ) → f .proposed v (c .period) l → (length l ≡ c .period) × (1 ≤ c .period)
-        sized l v p = let q = ok .rows v (c .period) l p in (q .0 .0, q .1)
+        serve : (rows : List Readings) (v : ℕ) (l : List Readings) → f .proposed v (held d .period) l → Made law l (held d .estimate) → Begins l rows
+            → ((d' : Decision) → In d' ds → Served rows d') → (d' : Decision) → (d' ≡ d) ⊎ In d' ds → Served rows d'
+        serve rows v l p m s others d' (inl q) = let r = ok .rows v (held d .period) l p in rw q (l, s, r .0 .0, r .1, m)
+        serve rows v l p m s others d' (inr q) = others d' q
 
-        join : (t : Longest f cs) (v : ℕ) (l : List Readings) → f .proposed v (c .period) l → Chosen f group v (c .period) l → c .state ≡ run law l
-            → Begins (t .rows) l ⊎ Begins l (t .rows) → Longest f (c ∷ cs)
-        join t v l p ch e (inl s) = record { rows = l; behind = inr (c, v, inl refl, p, ch); serves = serves }
-          where
-            serves : (c' : Command State) → (c' ≡ c) ⊎ In c' cs → (l' : List Readings) × Begins l' l × (length l' ≡ c' .period) × (1 ≤ c' .period) × (c' .state ≡ run law l')
-            serves c' (inl q) = rw q (l, all, sized l v p .0, sized l v p .1, e)
-            serves c' (inr q) = let (l', s', a, b, d) = t .serves c' q in (l', begins-trans s' s, a, b, d)
-        join t v l p ch e (inr s) = record {
-          rows = t .rows;
-          behind = or-map (λ r. let (c', v', i', p', ch') = r in (c', v', inr i', p', ch')) (t .behind);
-          serves = serves;
+        join : (t : Longest f ds) (v : ℕ) (l : List Readings) → f .proposed v (held d .period) l → Chosen f group v (held d .period) l
+            → Made law l (held d .estimate) → Begins (t .rows) l ⊎ Begins l (t .rows) → Longest f (d ∷ ds)
+        join t v l p c m (inl s) = record {
+          rows = l;
+          behind = inr (d, v, inl refl, p, c);
+          serves = serve l v l p m all (λ d' q. let (l', s', a, b, m') = t .serves d' q in (l', begins-trans s' s, a, b, m'));
         }
-          where
-            serves : (c' : Command State) → (c' ≡ c) ⊎ In c' cs
-                → (l' : List Readings) × Begins l' (t .rows) × (length l' ≡ c' .period) × (1 ≤ c' .period) × (c' .state ≡ run law l')
-            serves c' (inl q) = rw q (l, s, sized l v p .0, sized l v p .1, e)
-            serves c' (inr q) = t .serves c' q
+        join t v l p c m (inr s) = record {
+          rows = t .rows;
+          behind = or-map (λ r. let (d', v', i', p', c') = r in (d', v', inr i', p', c')) (t .behind);
+          serves = serve (t .rows) v l p m s (t .serves);
+        }
 
-        go : CommandTells law group fed f c → Longest f cs → Longest f (c ∷ cs)
-        go (v, l, p, ch, e) t = join t v l p ch e (compare (t .behind))
+        go : DecisionTells law group fed f (held d) → Longest f ds → Longest f (d ∷ ds)
+        go (v, l, p, c, m) t = join t v l p c m (compare (t .behind))
           where
-            compare : (t .rows ≡ []) ⊎ Behind f cs (t .rows) → Begins (t .rows) l ⊎ Begins l (t .rows)
+            compare : (t .rows ≡ []) ⊎ Behind f ds (t .rows) → Begins (t .rows) l ⊎ Begins l (t .rows)
             compare (inl z) = inl (rw z (begins-nil l))
-            compare (inr (c', v', _, p', ch')) = agree f group fed quorums ok v' (c' .period) v (c .period) (t .rows) l ch' p' ch p
+            compare (inr (d', v', _, p', c')) = agree f group fed quorums ok v' (held d' .period) v (held d .period) (t .rows) l c' p' c p

@@ -10,14 +10,15 @@ use native.Mathlib.Omega.{arith}
 use lib.ListN.{length}
 use lib.Dec.{T, eqb, ltb, eqb→eq, leb→le, ltb→lt, nltb→le, eqb-refl}
 use Rattle.scram.specs.Quorum.{beats, among, with}
-use Rattle.scram.specs.Replica.{Law, Group, Best, Replica, Message, Command}
+use Rattle.scram.specs.Held.{Law, Group, Estimate, Best, Held, Message, Command}
 use Rattle.scram.specs.Events.{doing, better, entered, hearing, nextState, ticked, following, adopting, estimating, propose, raise, hearAck, hearEstimate}
-use Rattle.scram.proofs.Tests.{pick-ok, and-left, and-right, or-cases, nor-left, nor-right, nand-right, eqb-no}
+use Rattle.lists.proofs.Choice.{pick-ok}
+use Rattle.lists.proofs.Booleans.{and-left, and-right, or-cases, nor-left, nor-right, nand-right, eqb-no}
 use Rattle.scram.proofs.Boxes.{heard-before, only-heard}
 use Rattle.scram.proofs.Rows.{Begins, all, then, begins-same, le-or-lt, lt-or-eq, AtMost, at-most-refl, at-most-trans, at-most-up}
-use Rattle.scram.proofs.Facts.{Facts, RowsTo, Based, Opened, Chosen, Consistent}
-use Rattle.scram.proofs.Growth.{or-map, withProposed, withAccepted, withEstimated}
-use Rattle.scram.proofs.Growth.{grown-refl, grown-trans, grown-proposed, grown-accepted, grown-estimated, consistent-proposed, consistent-accepted, consistent-estimated}
+use Rattle.scram.proofs.Facts.{Facts, RowsTo, Based, Gave, Opened, Chosen, Consistent}
+use Rattle.scram.proofs.Growth.{or-map, withProposed, withAccepted, withEstimated, consistent-proposed, consistent-accepted, consistent-estimated}
+use Rattle.scram.proofs.Growth.{grown-refl, grown-trans, grown-proposed, grown-accepted, grown-estimated}
 use Rattle.scram.proofs.Ties.{run, Made, made-run, Ties, Leads, Hears, Tied, SentTells, IssuedTells, Keeps, keeps-quiet}
 
 -- ---- which of two estimates is the better
@@ -63,7 +64,7 @@ module _ {State Readings : Type 0} where
       (λ t. f (beats-yes (c .baseView) (c .basePeriod) (c .box) (b .baseView) (b .basePeriod) (b .box) (or-right (b .any) _ e t)))
       (λ t. g (beats-no (c .baseView) (c .basePeriod) (c .box) (b .baseView) (b .basePeriod) (b .box) (nor-right (not (b .any)) _ t)))
 
-module _ {State Readings : Type 0} (law : Law State Readings) (group : Group) (fed : ℕ → Readings → Type 0) where
+module _ {State Readings Values : Type 0} (law : Law State Readings Values) (group : Group) (fed : ℕ → Readings → Type 0) where
   -- ---- the next period
 
   run-none : law .start ≡ run law []
@@ -71,23 +72,23 @@ module _ {State Readings : Type 0} (law : Law State Readings) (group : Group) (f
   run-none = refl
 
   -- the state that a period starts from is the run of the rows so far
-  next-state : (s : Replica State Readings) (l : List Readings) → length l ≡ s .period → Made law l (s .state) (s .readings)
+  next-state : (s : Held State Readings) (l : List Readings) → length l ≡ s .period → Made law l (s .estimate)
       → nextState law s ≡ run law l
   next-state s l e m = pick-ok (λ x. x ≡ run law l) _ _ _ (λ t. first l (e ∙ eqb→eq _ _ t) m) (λ t. later l (λ z. eqb-no _ _ t (sym e ∙ z)) m)
     where
-      first : (l : List Readings) → length l ≡ 0 → Made law l (s .state) (s .readings) → s .state ≡ run law l
+      first : (l : List Readings) → length l ≡ 0 → Made law l (s .estimate) → s .estimate .state ≡ run law l
       first [] z m = m ∙ run-none
       first (y ∷ l) z m = absurd (omega arith)
 
-      later : (l : List Readings) → length l ≢ 0 → Made law l (s .state) (s .readings) → law .update (s .state) (s .readings) ≡ run law l
+      later : (l : List Readings) → length l ≢ 0 → Made law l (s .estimate) → law .update (s .estimate .state) (s .estimate .readings) ≡ run law l
       later [] z m = absurd (z refl)
-      later (y ∷ l) z m = made-run law (y ∷ l) (s .state) (s .readings) (omega arith) m
+      later (y ∷ l) z m = made-run law y l (s .estimate) m
 
   based-then : (f : Facts Readings) (v k : ℕ) (l : List Readings) (y : Readings) → Based f v k l → Based f v k (y ∷ l)
   based-then f v k l y (inl z) = inl z
   based-then f v k l y (inr (m, p, s)) = inr (m, p, then y s)
 
-  pub tick-ties : (f : Facts Readings) (i : ℕ) (s : Replica State Readings) (l : List Readings) (y : Readings) → fed (suc (s .period)) y
+  pub tick-ties : (f : Facts Readings) (i : ℕ) (s : Held State Readings) (l : List Readings) (y : Readings) → fed (suc (s .period)) y
       → Ties law group fed f i s l → Ties law group fed f i (ticked law s y) (y ∷ l)
   tick-ties f i s l y h c = record {
     rows = (let e = c .rows .0 in omega arith, (rw (c .rows .0) h, c .rows .1));
@@ -102,11 +103,11 @@ module _ {State Readings : Type 0} (law : Law State Readings) (group : Group) (f
 
   -- ---- proposing
 
-  pub propose-keeps : (f : Facts Readings) (i : ℕ) (s : Replica State Readings) (l₀ l : List Readings) (x : State) (y : Readings)
+  pub propose-keeps : (f : Facts Readings) (i : ℕ) (s : Held State Readings) (l₀ l : List Readings) (e : Estimate State Readings)
       → Consistent f group fed → Ties law group fed f i s l₀ → group .coordinator (s .view) ≡ i → 1 ≤ s .period
-      → RowsTo fed (s .period) l → Made law l x y → ((j : ℕ) (m : List Readings) → f .proposed (s .view) j m → (j < s .period) × Begins m l)
-      → (s .view ≡ 0) ⊎ Opened f group (s .view) (s .period) l → Keeps law group fed f i (propose law group i s x y)
-  propose-keeps f i s l₀ l x y ok c co from1 to mk old way = record {
+      → RowsTo fed (s .period) l → Made law l e → ((j : ℕ) (m : List Readings) → f .proposed (s .view) j m → (j < s .period) × Begins m l)
+      → (s .view ≡ 0) ⊎ Opened f group (s .view) (s .period) l → Keeps law group fed f i (propose law group i s e)
+  propose-keeps f i s l₀ l e ok c co from1 to mk old way = record {
     facts = h;
     grown = grown-trans (grown-proposed f (s .view) (s .period) l co) (grown-accepted g i (s .view) (s .period) l);
     consistent = consistent-accepted group fed ok′ i (s .view) (s .period) l (inr (refl, refl, refl)) (c .estimated);
@@ -120,10 +121,10 @@ module _ {State Readings : Type 0} (law : Law State Readings) (group : Group) (f
         based = inr (l, inr (refl, refl, refl), all);
         baseBelow = omega arith;
         proposed = proposed;
-        start = λ e. absurd (omega arith);
+        start = λ z. absurd (omega arith);
       };
       normal = λ _ _ _. record { mine = inr (refl, refl, refl); acks = λ j t. inr (only-heard i j t, refl, refl, refl) };
-      change = λ _ e. absurd (false≢true e);
+      change = λ _ z. absurd (false≢true z);
     };
     sent = (l, inr (refl, refl, refl), mk);
     issued = tt;
@@ -151,21 +152,20 @@ module _ {State Readings : Type 0} (law : Law State Readings) (group : Group) (f
   -- ---- entering a higher view
 
   -- a replica with another view and mode
-  abbrev moved : Replica State Readings → ℕ → Bool → List Bool → Best State Readings → Replica State Readings
+  abbrev moved : Held State Readings → ℕ → Bool → List Bool → Best State Readings → Held State Readings
   moved s view viewChange heard best = record {
     period = s .period;
     view = view;
     baseView = s .baseView;
     viewChange = viewChange;
     decided = s .decided;
-    state = s .state;
-    readings = s .readings;
+    estimate = s .estimate;
     basePeriod = s .basePeriod;
     heard = heard;
     best = best;
   }
 
-  module _ (f : Facts Readings) (i : ℕ) (s : Replica State Readings) (l : List Readings) (ok : Consistent f group fed)
+  module _ (f : Facts Readings) (i : ℕ) (s : Held State Readings) (l : List Readings) (ok : Consistent f group fed)
       (c : Ties law group fed f i s l) (from1 : 1 ≤ s .period) (w : ℕ) (up : s .view < w) where
     -- the box's estimate of the view that it enters
     abbrev pub entering : Facts Readings
@@ -219,7 +219,7 @@ module _ {State Readings : Type 0} (law : Law State Readings) (group : Group) (f
       issued = tt;
     }
 
-    follow-keeps : group .coordinator w ≢ i → Keeps law group fed f i (doing (following law s w) (some (estimating law i s w)) none)
+    follow-keeps : group .coordinator w ≢ i → Keeps law group fed f i (doing (following law s w) (some (estimating i s w)) none)
     follow-keeps d = record {
       facts = entering;
       grown = grown-estimated f i w (s .period) (s .baseView) (s .basePeriod) l;
@@ -229,7 +229,7 @@ module _ {State Readings : Type 0} (law : Law State Readings) (group : Group) (f
       issued = tt;
     }
 
-  pub raise-keeps : (f : Facts Readings) (i : ℕ) (s : Replica State Readings) (l : List Readings) → Consistent f group fed
+  pub raise-keeps : (f : Facts Readings) (i : ℕ) (s : Held State Readings) (l : List Readings) → Consistent f group fed
       → Ties law group fed f i s l → 1 ≤ s .period → Keeps law group fed f i (raise law group i s)
   unfolding raise
   raise-keeps f i s l ok c from1 =
@@ -239,10 +239,10 @@ module _ {State Readings : Type 0} (law : Law State Readings) (group : Group) (f
 
   -- ---- adopting
 
-  adopt-tied : (f : Facts Readings) (i : ℕ) (s : Replica State Readings) (w : ℕ) (x : State) (y : Readings) (d : Bool) (m : List Readings)
-      → Consistent f group fed → Tied law group fed f i s → f .proposed w (s .period) m → Made law m x y → s .view ≤ w → group .coordinator w ≢ i
-      → 1 ≤ s .period → Tied law group fed (withAccepted f i w (s .period) m) i (adopting law s w x y d)
-  adopt-tied f i s w x y d m ok t p mk up co from1 = record {
+  adopt-tied : (f : Facts Readings) (i : ℕ) (s : Held State Readings) (w : ℕ) (e : Estimate State Readings) (d : Bool) (m : List Readings)
+      → Consistent f group fed → Tied law group fed f i s → f .proposed w (s .period) m → Made law m e → s .view ≤ w → group .coordinator w ≢ i
+      → 1 ≤ s .period → Tied law group fed (withAccepted f i w (s .period) m) i (adopting law s w e d)
+  adopt-tied f i s w e d m ok t p mk up co from1 = record {
     rows = m;
     ties = record {
       rows = ok .rows w (s .period) m p .0;
@@ -251,11 +251,11 @@ module _ {State Readings : Type 0} (law : Law State Readings) (group : Group) (f
       estimated = λ v k a b m' q. let r = c .estimated v k a b m' q in omega arith;
       based = inr (m, p, all);
       baseBelow = omega arith;
-      proposed = λ v k m' q e. inl (below v k (c .proposed v k m' q e) e);
-      start = λ e. absurd (omega arith);
+      proposed = λ v k m' q z. inl (below v k (c .proposed v k m' q z) z);
+      start = λ z. absurd (omega arith);
     };
-    normal = λ e _ _. absurd (co e);
-    change = λ e _. absurd (co e);
+    normal = λ z _ _. absurd (co z);
+    change = λ z _. absurd (co z);
   }
     where
       c : Ties law group fed f i s (t .rows)
@@ -274,16 +274,17 @@ module _ {State Readings : Type 0} (law : Law State Readings) (group : Group) (f
           go (inr h) = h
           go (inl h) = absurd (co (ap (group .coordinator) (let z : w ≡ v = omega arith in z) ∙ e))
 
-  pub adopt-keeps : (f : Facts Readings) (i : ℕ) (s : Replica State Readings) (w : ℕ) (x : State) (y : Readings) (d : Bool) (m : List Readings)
-      (sent : Option (Message State Readings)) (command : Option (Command State)) → Consistent f group fed → Tied law group fed f i s
-      → f .proposed w (s .period) m → Made law m x y → s .view ≤ w → group .coordinator w ≢ i → 1 ≤ s .period
-      → SentTells law group fed (withAccepted f i w (s .period) m) sent → IssuedTells law group fed (withAccepted f i w (s .period) m) command
-      → Keeps law group fed f i (doing (adopting law s w x y d) sent command)
-  adopt-keeps f i s w x y d m sent command ok t p mk up co from1 told issue = record {
+  pub adopt-keeps : (f : Facts Readings) (i : ℕ) (s : Held State Readings) (w : ℕ) (e : Estimate State Readings) (d : Bool) (m : List Readings)
+      (sent : Option (Message State Readings)) (command : Option (Command Values)) → Consistent f group fed → Tied law group fed f i s
+      → f .proposed w (s .period) m → Made law m e → s .view ≤ w → group .coordinator w ≢ i → 1 ≤ s .period
+      → SentTells law group fed (withAccepted f i w (s .period) m) sent
+      → IssuedTells law group fed (withAccepted f i w (s .period) m) (adopting law s w e d) command
+      → Keeps law group fed f i (doing (adopting law s w e d) sent command)
+  adopt-keeps f i s w e d m sent command ok t p mk up co from1 told issue = record {
     facts = withAccepted f i w (s .period) m;
     grown = grown-accepted f i w (s .period) m;
     consistent = consistent-accepted group fed ok i w (s .period) m p (λ v k a b m' q. let r = t .ties .estimated v k a b m' q in omega arith);
-    tied = adopt-tied f i s w x y d m ok t p mk up co from1;
+    tied = adopt-tied f i s w e d m ok t p mk up co from1;
     sent = told;
     issued = issue;
   }
@@ -295,7 +296,7 @@ module _ {State Readings : Type 0} (law : Law State Readings) (group : Group) (f
   same-proposed f ok v k l m p q =
       begins-same (ok .grows v k k l m p q (omega arith)) (let h = ok .rows v k l p .0 .0 in let h' = ok .rows v k m q .0 .0 in omega arith)
 
-  pub ack-keeps : (f : Facts Readings) (i : ℕ) (s : Replica State Readings) (j : ℕ) (m : List Readings) → Consistent f group fed
+  pub ack-keeps : (f : Facts Readings) (i : ℕ) (s : Held State Readings) (j : ℕ) (m : List Readings) → Consistent f group fed
       → Tied law group fed f i s → group .coordinator (s .view) ≡ i → 1 ≤ s .period → s .viewChange ≡ false
       → f .accepted j (s .view) (s .period) m → Keeps law group fed f i (hearAck law group i s j)
   unfolding hearAck
@@ -307,7 +308,7 @@ module _ {State Readings : Type 0} (law : Law State Readings) (group : Group) (f
         consistent = ok;
         tied = tied true;
         sent = (t .rows, lead .mine, t .ties .made, ch);
-        issued = (s .view, t .rows, lead .mine, ch, made-run law (t .rows) (s .state) (s .readings) (let h = t .ties .rows .0 in omega arith) (t .ties .made));
+        issued = (refl, (s .view, t .rows, lead .mine, ch, t .ties .made));
       })
       (λ u. keeps-quiet law group fed f i (doing (hearing s j (s .best) (s .decided)) none none) refl refl ok (tied (s .decided)))
     where
@@ -342,10 +343,10 @@ module _ {State Readings : Type 0} (law : Law State Readings) (group : Group) (f
 
   -- b is an estimate that some box gave for view v in period k
   Given : Facts Readings → ℕ → ℕ → Best State Readings → Type 0
-  Given f v k b = (l : List Readings) × f .estimated (b .box) v k (b .baseView) (b .basePeriod) l × Made law l (b .state) (b .readings)
+  Given f v k b = (l : List Readings) × f .estimated (b .box) v k (b .baseView) (b .basePeriod) l × Made law l (b .estimate)
 
-  hears-more : (f : Facts Readings) (s : Replica State Readings) (b : Best State Readings) (m : List Readings) (d : Bool) → Hears law group fed f s
-      → b .any ≡ true → f .estimated (b .box) (s .view) (s .period) (b .baseView) (b .basePeriod) m → Made law m (b .state) (b .readings)
+  hears-more : (f : Facts Readings) (s : Held State Readings) (b : Best State Readings) (m : List Readings) (d : Bool) → Hears law group fed f s
+      → b .any ≡ true → f .estimated (b .box) (s .view) (s .period) (b .baseView) (b .basePeriod) m → Made law m (b .estimate)
       → Hears law group fed f (hearing s (b .box) (better (s .best) b) d)
   unfolding Given
   hears-more f s b m d old any e mk = record {
@@ -360,29 +361,34 @@ module _ {State Readings : Type 0} (law : Law State Readings) (group : Group) (f
       given = better-ok (Given f (s .view) (s .period)) (s .best) b (old .any) (λ _. (m, e, mk)) (λ _. (old .rows, old .given, old .made))
 
       Above : Best State Readings → Type 0
-      Above r = AtMost (s .best .baseView) (s .best .basePeriod) (r .baseView) (r .basePeriod) × AtMost (b .baseView) (b .basePeriod) (r .baseView) (r .basePeriod)
+      Above r =
+          AtMost (s .best .baseView) (s .best .basePeriod) (r .baseView) (r .basePeriod)
+          × AtMost (b .baseView) (b .basePeriod) (r .baseView) (r .basePeriod)
 
       above : Above (better (s .best) b)
-      above = better-ok Above (s .best) b (old .any) (λ x. (x, at-most-refl (b .baseView) (b .basePeriod))) (λ x. (at-most-refl (s .best .baseView) (s .best .basePeriod), x))
+      above =
+          better-ok Above (s .best) b (old .any)
+          (λ x. (x, at-most-refl (b .baseView) (b .basePeriod)))
+          (λ x. (at-most-refl (s .best .baseView) (s .best .basePeriod), x))
 
       others : (j : ℕ) → T (among (with (s .heard) (b .box)) j)
-          → (x y : ℕ) × (m : List Readings) × f .estimated j (s .view) (s .period) x y m × AtMost x y (better (s .best) b .baseView) (better (s .best) b .basePeriod)
+          → Gave f j (s .view) (s .period) (better (s .best) b .baseView) (better (s .best) b .basePeriod)
       others j t = go (heard-before (s .heard) (b .box) j t)
         where
-          go : (j ≡ b .box) ⊎ T (among (s .heard) j)
-              → (x y : ℕ) × (m : List Readings) × f .estimated j (s .view) (s .period) x y m × AtMost x y (better (s .best) b .baseView) (better (s .best) b .basePeriod)
+          go : (j ≡ b .box) ⊎ T (among (s .heard) j) → Gave f j (s .view) (s .period) (better (s .best) b .baseView) (better (s .best) b .basePeriod)
           go (inl h) = (b .baseView, b .basePeriod, m, rw h e, above .1)
           go (inr h) = let (x, y, m', e', le) = old .others j h in (x, y, m', e', at-most-trans le (above .0))
 
-  pub estimate-keeps : (f : Facts Readings) (i : ℕ) (s : Replica State Readings) (l : List Readings) (b : Best State Readings) (m : List Readings)
+  pub estimate-keeps : (f : Facts Readings) (i : ℕ) (s : Held State Readings) (l : List Readings) (b : Best State Readings) (m : List Readings)
       → Consistent f group fed → Ties law group fed f i s l → group .coordinator (s .view) ≡ i → 1 ≤ s .period → s .viewChange ≡ true
       → Hears law group fed f s → b .any ≡ true → f .estimated (b .box) (s .view) (s .period) (b .baseView) (b .basePeriod) m
-      → Made law m (b .state) (b .readings) → Keeps law group fed f i (hearEstimate law group i s b)
+      → Made law m (b .estimate) → Keeps law group fed f i (hearEstimate law group i s b)
   unfolding hearEstimate
   estimate-keeps f i s l b m ok c co from1 n old any e mk =
       pick-ok (Keeps law group fed f i) _ _ _
-      (λ t. propose-keeps f i s l (u .rows) (better (s .best) b .state) (better (s .best) b .readings) ok c co from1
-      (ok .based (better (s .best) b .box) (s .view) (s .period) (better (s .best) b .baseView) (better (s .best) b .basePeriod) (u .rows) (u .given) .0) (u .made)
+      (λ t. propose-keeps f i s l (u .rows) (better (s .best) b .estimate) ok c co from1
+      (ok .based (better (s .best) b .box) (s .view) (s .period) (better (s .best) b .baseView) (better (s .best) b .basePeriod) (u .rows) (u .given) .0)
+      (u .made)
       (λ j m' p. absurd (none-yet j (c .proposed (s .view) j m' p co)))
       (inr (record {
         who = among (with (s .heard) (b .box));

@@ -1,70 +1,82 @@
--- A replica's period counts its ticks not refused, and a command has the period and the updated estimate of the replica that its step gives
--- back. Assumes nothing.
+-- A replica's period counts its ticks not refused. Assumes nothing.
 use mathlib.Core.Path.{_≡_, refl}
-use mathlib.Core.Bool.{Bool, cond}
-use mathlib.Core.Option.{Option, none, some}
+use mathlib.Core.Bool.{Bool, false, not}
 use Prim.Native.Nat.{ℕ, _+_}
-use Rattle.scram.specs.Replica.{Law, Group, Best, Replica, Kind, Propose, Ack, Decide, Estimate, Message, Command, Outcome}
-use Rattle.scram.specs.Events.{estimateOf, entered, ticked, raise, afterTick, tick, giveUp, hearAck, hearEstimate, receive, arrive}
+use native.Mathlib.Omega.{arith}
+use Rattle.lists.specs.Choice.{pick}
+use Rattle.lists.proofs.Choice.{pick-ok}
+use Rattle.scram.specs.Held.{Law, Group, Best, Held, Kind, Message, Outcome}
+use Rattle.scram.specs.declared.Kind.the-variants as Kind
+use Rattle.scram.specs.Events.{refusing, estimateOf, entered, ticked, raise, afterTick, tick, giveUp, hearAck, hearEstimate, receive, arrive}
 use Rattle.scram.specs.Shown.{isRefused}
-use Rattle.scram.proofs.Tests.{pick-ok}
 
-module _ {State Readings : Type 0} (law : Law State Readings) where
-  abbrev pub Carries : Replica State Readings → Option (Command State) → Type 0
-  Carries s none = Unit {0}
-  Carries s (some c) = (c .period ≡ s .period) × (c .state ≡ law .update (s .state) (s .readings))
+module _ {State Readings Values : Type 0} where
+  -- a step that was not refused, and the period after it
+  pub record Taken (k : ℕ) (o : Outcome State Readings Values) : Type 0 where
+    pub period : o .held .period ≡ k
+    pub done : isRefused (o .answer) ≡ false
 
-  -- the period is k where the step was refused, else n
-  pub record Counted (k n : ℕ) (o : Outcome State Readings) : Type 0 where
-    pub period : o .replica .period ≡ cond (isRefused (o .answer)) k n
-    pub command : Carries (o .replica) (o .command)
+  -- a step that leaves the period
+  pub record Stays (k : ℕ) (o : Outcome State Readings Values) : Type 0 where
+    pub period : o .held .period ≡ k
 
-  module _ (group : Group) (i : ℕ) where
-    raise-counted : (k : ℕ) (s : Replica State Readings) → Counted k (s .period) (raise law group i s)
-    unfolding raise
-    raise-counted k s = pick-ok (Counted k (s .period)) _ _ _ (λ _. record { period = refl; command = tt }) (λ _. record { period = refl; command = tt })
+  -- a step that raises the period by 1, unless it was refused
+  pub record Counted (k : ℕ) (o : Outcome State Readings Values) : Type 0 where
+    pub period : o .held .period ≡ k + pick (not (isRefused (o .answer))) 1 0
 
-    after-counted : (k : ℕ) (s : Replica State Readings) → Counted k (s .period) (afterTick law group i s)
-    unfolding afterTick
-    after-counted k s =
-        pick-ok (Counted k (s .period)) _ _ _ (λ _. raise-counted k s)
-        (λ _. pick-ok (Counted k (s .period)) _ _ _ (λ _. record { period = refl; command = tt }) (λ _. record { period = refl; command = tt }))
+  refused-counted : (s : Held State Readings) (number : ℕ) → Counted (s .period) (refusing s number)
+  unfolding pick
+  refused-counted s number = record { period = omega arith }
 
-    pub tick-counted : (s : Replica State Readings) (stray : Bool) (y : Readings) → Counted (s .period) (s .period + 1) (tick law group i s stray y)
-    unfolding tick
-    tick-counted s stray y =
-        pick-ok (Counted (s .period) (s .period + 1)) _ _ _ (λ _. record { period = refl; command = tt })
-        (λ _. pick-ok (Counted (s .period) (s .period + 1)) _ _ _ (λ _. record { period = refl; command = tt })
-        (λ _. pick-ok (Counted (s .period) (s .period + 1)) _ _ _ (λ _. record { period = refl; command = tt })
-        (λ _. after-counted (s .period) (ticked law s y))))
+  taken-counted : (k : ℕ) (o : Outcome State Readings Values) → Taken (k + 1) o → Counted k o
+  unfolding pick
+  taken-counted k o t = record { period = rw (t .done) (t .period) }
 
-    pub giveUp-counted : (s : Replica State Readings) → Counted (s .period) (s .period) (giveUp law group i s)
-    unfolding giveUp
-    giveUp-counted s =
-        pick-ok (Counted (s .period) (s .period)) _ _ _ (λ _. record { period = refl; command = tt })
-        (λ _. pick-ok (Counted (s .period) (s .period)) _ _ _ (λ _. record { period = refl; command = tt })
-        (λ _. pick-ok (Counted (s .period) (s .period)) _ _ _ (λ _. record { period = refl; command = tt })
-        (λ _. raise-counted (s .period) s)))
+module _ {State Readings Values : Type 0} (law : Law State Readings Values) (group : Group) (i : ℕ) where
+  raise-taken : (s : Held State Readings) → Taken (s .period) (raise law group i s)
+  unfolding raise
+  raise-taken s = pick-ok (Taken (s .period)) _ _ _ (λ _. record { period = refl; done = refl }) (λ _. record { period = refl; done = refl })
 
-    estimate-counted : (k : ℕ) (s : Replica State Readings) (b : Best State Readings) → Counted k (s .period) (hearEstimate law group i s b)
-    unfolding hearEstimate
-    estimate-counted k s b = pick-ok (Counted k (s .period)) _ _ _ (λ _. record { period = refl; command = tt }) (λ _. record { period = refl; command = tt })
+  -- what follows a tick is not refused
+  pub after-taken : (s : Held State Readings) → Taken (s .period) (afterTick law group i s)
+  unfolding afterTick
+  after-taken s =
+      pick-ok (Taken (s .period)) _ _ _ (λ _. raise-taken s)
+      (λ _. pick-ok (Taken (s .period)) _ _ _ (λ _. record { period = refl; done = refl }) (λ _. record { period = refl; done = refl }))
 
-    receive-counted : (kind : Kind) (s : Replica State Readings) (m : Message State Readings) → Counted (s .period) (s .period) (receive law group i kind s m)
-    unfolding receive hearAck
-    receive-counted Propose s m = record { period = refl; command = tt }
-    receive-counted Ack s m =
-        pick-ok (Counted (s .period) (s .period)) _ _ _ (λ _. record { period = refl; command = (refl, refl) }) (λ _. record { period = refl; command = tt })
-    receive-counted Decide s m = record { period = refl; command = (refl, refl) }
-    receive-counted Estimate s m =
-        pick-ok (Counted (s .period) (s .period)) _ _ _ (λ _. estimate-counted (s .period) (entered i s (m .view)) (estimateOf m))
-        (λ _. estimate-counted (s .period) s (estimateOf m))
+  pub tick-counted : (s : Held State Readings) (stray : Bool) (y : Readings) → Counted (s .period) (tick law group i s stray y)
+  unfolding tick
+  tick-counted s stray y =
+      pick-ok (Counted (s .period)) _ _ _ (λ _. refused-counted s 6)
+      (λ _. pick-ok (Counted (s .period)) _ _ _ (λ _. refused-counted s 7)
+      (λ _. pick-ok (Counted (s .period)) _ _ _ (λ _. refused-counted s 12)
+      (λ _. taken-counted (s .period) (afterTick law group i (ticked law s y)) (after-taken (ticked law s y)))))
 
-    pub arrive-counted : (s : Replica State Readings) (m : Message State Readings) → Counted (s .period) (s .period) (arrive law group i s m)
-    unfolding arrive
-    arrive-counted s m =
-        pick-ok (Counted (s .period) (s .period)) _ _ _ (λ _. record { period = refl; command = tt })
-        (λ _. pick-ok (Counted (s .period) (s .period)) _ _ _ (λ _. record { period = refl; command = tt })
-        (λ _. pick-ok (Counted (s .period) (s .period)) _ _ _ (λ _. record { period = refl; command = tt })
-        (λ _. pick-ok (Counted (s .period) (s .period)) _ _ _ (λ _. record { period = refl; command = tt })
-        (λ _. receive-counted (m .kind) s m))))
+  pub giveUp-stays : (s : Held State Readings) → Stays (s .period) (giveUp law group i s)
+  unfolding giveUp
+  giveUp-stays s =
+      pick-ok (Stays (s .period)) _ _ _ (λ _. record { period = refl })
+      (λ _. pick-ok (Stays (s .period)) _ _ _ (λ _. record { period = refl })
+      (λ _. pick-ok (Stays (s .period)) _ _ _ (λ _. record { period = refl })
+      (λ _. record { period = raise-taken s .period })))
+
+  estimate-stays : (s : Held State Readings) (b : Best State Readings) → Stays (s .period) (hearEstimate law group i s b)
+  unfolding hearEstimate
+  estimate-stays s b = pick-ok (Stays (s .period)) _ _ _ (λ _. record { period = refl }) (λ _. record { period = refl })
+
+  receive-stays : (kind : Kind) (s : Held State Readings) (m : Message State Readings) → Stays (s .period) (receive law group i kind s m)
+  unfolding receive hearAck
+  receive-stays Kind.Propose s m = record { period = refl }
+  receive-stays Kind.Ack s m = pick-ok (Stays (s .period)) _ _ _ (λ _. record { period = refl }) (λ _. record { period = refl })
+  receive-stays Kind.Decide s m = record { period = refl }
+  receive-stays Kind.Estimate s m =
+      pick-ok (Stays (s .period)) _ _ _ (λ _. estimate-stays (entered i s (m .view)) (estimateOf m)) (λ _. estimate-stays s (estimateOf m))
+
+  pub arrive-stays : (s : Held State Readings) (m : Message State Readings) → Stays (s .period) (arrive law group i s m)
+  unfolding arrive
+  arrive-stays s m =
+      pick-ok (Stays (s .period)) _ _ _ (λ _. record { period = refl })
+      (λ _. pick-ok (Stays (s .period)) _ _ _ (λ _. record { period = refl })
+      (λ _. pick-ok (Stays (s .period)) _ _ _ (λ _. record { period = refl })
+      (λ _. pick-ok (Stays (s .period)) _ _ _ (λ _. record { period = refl })
+      (λ _. receive-stays (m .kind) s m))))

@@ -8,16 +8,20 @@ use Prim.Native.Nat.{ℕ, suc, _+_, _≤_, _<_}
 use native.Mathlib.Omega.{arith}
 use lib.Dec.{T, eqb, ltb, eqb→eq, eqb-refl, ltb→lt, nltb→le}
 use Rattle.scram.specs.Quorum.{among}
-use Rattle.scram.specs.Replica.{Law, Group, Replica, Kind, Propose, Ack, Decide, Estimate, Message, Outcome}
-use Rattle.scram.specs.Events.{badSender, badPlace, badBase, idle, stale, unwanted, lastPeriod, lastView}
-use Rattle.scram.specs.Events.{refusing, ignoring, doing, estimateOf, entered, ticked, leads, ignores, raise, afterTick, tick, giveUp, hearEstimate, receive, arrive}
+use Rattle.scram.specs.Held.{Law, Group, Held, Kind, Message, Outcome}
+use Rattle.scram.specs.declared.Kind.the-variants as Kind
+use Rattle.scram.specs.Events.{badSender, badPlace, badBase, idle, stale, unwanted, ignores, lastPeriod, lastView}
+use Rattle.scram.specs.Events.{refusing, ignoring, doing, estimateOf, entered, ticked, leads, afterTick, tick, giveUp, hearEstimate, receive, arrive}
 use Rattle.scram.specs.Shown.{isRefused}
-use Rattle.scram.proofs.Tests.{pick-ok, nor-left, nor-right, nand-right, not-not, is-true, is-false, eqb-no}
+use Rattle.lists.proofs.Choice.{pick-ok}
+use Rattle.lists.proofs.Booleans.{nor-left, nor-right, nand-right, not-not, is-true, is-false, eqb-no}
 use Rattle.scram.proofs.Rows.{Begins, then, le-or-lt}
 use Rattle.scram.proofs.Facts.{Facts, Opened, Consistent}
 use Rattle.scram.proofs.Growth.{or-map, grown-accepted, grown-estimated, chosen-kept}
-use Rattle.scram.proofs.Ties.{made-run, Ties, Tied, Tells, Keeps, keeps-then, keeps-quiet}
-use Rattle.scram.proofs.Moves.{tick-ties, propose-keeps, entering-consistent, entering, entered-ties, entered-hears, raise-keeps, adopt-keeps, ack-keeps, estimate-keeps}
+use Rattle.scram.proofs.Ties.{Ties, Tied, Tells, Keeps, keeps-then, keeps-quiet}
+use Rattle.scram.proofs.Periods.{after-taken}
+use Rattle.scram.proofs.Moves.{tick-ties, propose-keeps, raise-keeps, adopt-keeps, ack-keeps, estimate-keeps}
+use Rattle.scram.proofs.Moves.{entering, entering-consistent, entered-ties, entered-hears}
 
 -- ---- what the tests tell
 
@@ -29,48 +33,50 @@ another : (N own sender : ℕ) → T (not (badSender N own sender)) → sender �
 unfolding badSender
 another N own sender t = eqb-no sender own (nor-right (ltb sender 1 || ltb N sender) (eqb sender own) t)
 
-module _ {State Readings : Type 0} (law : Law State Readings) (group : Group) (own : ℕ) where
+module _ {State Readings : Type 0} where
   -- a frame that is not ignored is of this period and of no lower view
-  record Current (kind : Kind) (s : Replica State Readings) (m : Message State Readings) : Type 0 where
+  record Current (kind : Kind) (s : Held State Readings) (m : Message State Readings) : Type 0 where
     from1 : 1 ≤ s .period
     now : m .period ≡ s .period
     up : s .view ≤ m .view
     wanted : T (not (unwanted kind (s .view) (s .viewChange) (among (s .heard) (m .sender)) (m .view)))
 
-  current : (s : Replica State Readings) (m : Message State Readings) → T (not (ignores law group own s m)) → Current (m .kind) s m
+  current : (s : Held State Readings) (m : Message State Readings) → T (not (ignores s m)) → Current (m .kind) s m
   current s m t =
       let a = idle (s .period) (s .decided) in
       let b = stale (s .period) (s .view) (m .period) (m .view) in
       let c = unwanted (m .kind) (s .view) (s .viewChange) (among (s .heard) (m .sender)) (m .view) in
       let ab = nor-left (a || b) c t in
-      let nb = nor-right a b ab in record {
+      let nb = nor-right a b ab in
+      let here = eqb (m .period) (s .period) in record {
         from1 = not-idle (s .period) (s .decided) (nor-left a b ab);
-        now = eqb→eq (m .period) (s .period) (not-not (eqb (m .period) (s .period)) (nor-left (not (eqb (m .period) (s .period))) (ltb (m .view) (s .view)) nb));
-        up = nltb→le (m .view) (s .view) (nor-right (not (eqb (m .period) (s .period))) (ltb (m .view) (s .view)) nb);
+        now = eqb→eq (m .period) (s .period) (not-not here (nor-left (not here) (ltb (m .view) (s .view)) nb));
+        up = nltb→le (m .view) (s .view) (nor-right (not here) (ltb (m .view) (s .view)) nb);
         wanted = nor-right (a || b) c t;
       }
 
-module _ {State Readings : Type 0} (law : Law State Readings) (group : Group) (fed : ℕ → Readings → Type 0) where
-  same : (f : Facts Readings) (i : ℕ) (s : Replica State Readings) (number : ℕ) → Consistent f group fed → Tied law group fed f i s → Keeps law group fed f i (refusing s number)
+module _ {State Readings Values : Type 0} (law : Law State Readings Values) (group : Group) (fed : ℕ → Readings → Type 0) where
+  same : (f : Facts Readings) (i : ℕ) (s : Held State Readings) (number : ℕ) → Consistent f group fed → Tied law group fed f i s
+      → Keeps law group fed f i (refusing s number)
   same f i s number ok t = keeps-quiet law group fed f i (refusing s number) refl refl ok t
 
-  ignored : (f : Facts Readings) (i : ℕ) (s : Replica State Readings) → Consistent f group fed → Tied law group fed f i s → Keeps law group fed f i (ignoring s)
+  ignored : (f : Facts Readings) (i : ℕ) (s : Held State Readings) → Consistent f group fed → Tied law group fed f i s → Keeps law group fed f i (ignoring s)
   ignored f i s ok t = keeps-quiet law group fed f i (ignoring s) refl refl ok t
 
   -- ---- given-up views and ticks
 
-  pub giveUp-keeps : (f : Facts Readings) (i : ℕ) (s : Replica State Readings) → Consistent f group fed → Tied law group fed f i s
+  pub giveUp-keeps : (f : Facts Readings) (i : ℕ) (s : Held State Readings) → Consistent f group fed → Tied law group fed f i s
       → Keeps law group fed f i (giveUp law group i s)
   unfolding giveUp
   giveUp-keeps f i s ok t =
       pick-ok (Keeps law group fed f i) (idle (s .period) (s .decided)) _ _ (λ _. ignored f i s ok t)
-      (λ u. pick-ok (Keeps law group fed f i) (not (s .viewChange) && leads law group i (s .view)) _ _ (λ _. ignored f i s ok t)
+      (λ u. pick-ok (Keeps law group fed f i) (not (s .viewChange) && leads group i (s .view)) _ _ (λ _. ignored f i s ok t)
       (λ _. pick-ok (Keeps law group fed f i) (lastView (s .view)) _ _ (λ _. same f i s 12 ok t)
       (λ _. raise-keeps law group fed f i s (t .rows) ok (t .ties) (not-idle (s .period) (s .decided) u))))
 
-  module _ (f : Facts Readings) (i : ℕ) (s : Replica State Readings) (y : Readings) (h : fed (suc (s .period)) y)
+  module _ (f : Facts Readings) (i : ℕ) (s : Held State Readings) (y : Readings) (h : fed (suc (s .period)) y)
       (ok : Consistent f group fed) (t : Tied law group fed f i s) where
-    abbrev next : Replica State Readings
+    abbrev next : Held State Readings
     next = ticked law s y
 
     ties : Ties law group fed f i next (y ∷ t .rows)
@@ -116,9 +122,9 @@ module _ {State Readings : Type 0} (law : Law State Readings) (group : Group) (f
     afterTick-keeps =
         pick-ok (Keeps law group fed f i) (s .viewChange) _ _
         (λ _. raise-keeps law group fed f i next (y ∷ t .rows) ok ties (omega arith))
-        (λ n. pick-ok (Keeps law group fed f i) (leads law group i (s .view)) _ _
+        (λ n. pick-ok (Keeps law group fed f i) (leads group i (s .view)) _ _
         (λ u. let co = sym (eqb→eq i (group .coordinator (s .view)) u) in
-        propose-keeps law group fed f i next (y ∷ t .rows) (y ∷ t .rows) (next .state) y ok ties co (omega arith) (ties .rows) (ties .made)
+        propose-keeps law group fed f i next (y ∷ t .rows) (y ∷ t .rows) (next .estimate) ok ties co (omega arith) (ties .rows) (ties .made)
         (earlier co (is-false (s .viewChange) n) (le-or-lt 1 (s .period)))
         (still-open co (is-false (s .viewChange) n) (le-or-lt 1 (s .period))))
         (λ u. keeps-quiet law group fed f i (doing next none none) refl refl ok (record {
@@ -128,21 +134,11 @@ module _ {State Readings : Type 0} (law : Law State Readings) (group : Group) (f
           change = λ e _. absurd (eqb-no i (group .coordinator (s .view)) u (sym e));
         })))
 
-  -- what follows a tick is not refused
-  record NotRefused (o : Outcome State Readings) : Type 0 where
-    is : isRefused (o .answer) ≡ false
-
-  after-done : (i : ℕ) (s : Replica State Readings) → isRefused (afterTick law group i s .answer) ≡ false
-  unfolding afterTick raise
-  after-done i s =
-      pick-ok NotRefused (s .viewChange) _ _ (λ _. pick-ok NotRefused _ _ _ (λ _. record { is = refl }) (λ _. record { is = refl }))
-      (λ _. pick-ok NotRefused _ _ _ (λ _. record { is = refl }) (λ _. record { is = refl })) .is
-
   -- a tick that is not refused feeds its row
-  record Feeds (f : Facts Readings) (i k : ℕ) (y : Readings) (o : Outcome State Readings) : Type 1 where
+  record Feeds (f : Facts Readings) (i k : ℕ) (y : Readings) (o : Outcome State Readings Values) : Type 1 where
     keeps : (isRefused (o .answer) ≡ false → fed k y) → Keeps law group fed f i o
 
-  pub tick-keeps : (f : Facts Readings) (i : ℕ) (s : Replica State Readings) (stray : Bool) (y : Readings) → Consistent f group fed
+  pub tick-keeps : (f : Facts Readings) (i : ℕ) (s : Held State Readings) (stray : Bool) (y : Readings) → Consistent f group fed
       → Tied law group fed f i s → (isRefused (tick law group i s stray y .answer) ≡ false → fed (suc (s .period)) y)
       → Keeps law group fed f i (tick law group i s stray y)
   unfolding tick
@@ -150,14 +146,14 @@ module _ {State Readings : Type 0} (law : Law State Readings) (group : Group) (f
       pick-ok (Feeds f i (suc (s .period)) y) (lastPeriod (s .period)) _ _ (λ _. refuse 6)
       (λ _. pick-ok (Feeds f i (suc (s .period)) y) stray _ _ (λ _. refuse 7)
       (λ _. pick-ok (Feeds f i (suc (s .period)) y) (s .viewChange && lastView (s .view)) _ _ (λ _. refuse 12)
-      (λ _. record { keeps = λ h. afterTick-keeps f i s y (h (after-done i (ticked law s y))) ok t }))) .keeps
+      (λ _. record { keeps = λ h. afterTick-keeps f i s y (h (after-taken law group i (ticked law s y) .done)) ok t }))) .keeps
     where
       refuse : (number : ℕ) → Feeds f i (suc (s .period)) y (refusing s number)
       refuse number = record { keeps = λ _. same f i s number ok t }
 
   -- ---- arriving frames
 
-  module _ (f : Facts Readings) (i : ℕ) (s : Replica State Readings) (ok : Consistent f group fed) (t : Tied law group fed f i s) where
+  module _ (f : Facts Readings) (i : ℕ) (s : Held State Readings) (ok : Consistent f group fed) (t : Tied law group fed f i s) where
     -- a frame from its view's coordinator, and one at it
     elsewhere : (coordinator sender : ℕ) → sender ≢ i → T (not (not (eqb sender coordinator))) → coordinator ≢ i
     elsewhere coordinator sender d u e = d (eqb→eq sender coordinator (not-not (eqb sender coordinator) u) ∙ e)
@@ -166,7 +162,7 @@ module _ {State Readings : Type 0} (law : Law State Readings) (group : Group) (f
     here coordinator u = sym (eqb→eq i coordinator (not-not (eqb i coordinator) u))
 
     -- an Ack that is wanted is of the own view, in normal mode
-    ack-wanted : (m : Message State Readings) → Current law group i Ack s m → (m .view ≡ s .view) × (s .viewChange ≡ false)
+    ack-wanted : (m : Message State Readings) → Current Kind.Ack s m → (m .view ≡ s .view) × (s .viewChange ≡ false)
     unfolding unwanted
     ack-wanted m c =
         let a = nor-left (ltb (s .view) (m .view) || s .viewChange) (among (s .heard) (m .sender)) (c .wanted) in
@@ -175,39 +171,36 @@ module _ {State Readings : Type 0} (law : Law State Readings) (group : Group) (f
         (omega arith, is-false (s .viewChange) (nor-right (ltb (s .view) (m .view)) (s .viewChange) a))
 
     -- an Estimate that is wanted at the own view comes in view-change mode
-    estimate-wanted : (m : Message State Readings) → Current law group i Estimate s m → m .view ≡ s .view → s .viewChange ≡ true
+    estimate-wanted : (m : Message State Readings) → Current Kind.Estimate s m → m .view ≡ s .view → s .viewChange ≡ true
     unfolding unwanted
     estimate-wanted m c e =
         let a = nand-right (eqb (m .view) (s .view)) (not (s .viewChange) || among (s .heard) (m .sender)) (c .wanted) (rw e (eqb-refl (s .view))) in
         is-true (s .viewChange) (not-not (s .viewChange) (nor-left (not (s .viewChange)) (among (s .heard) (m .sender)) a))
 
     receive-keeps : (kind : Kind) (m : Message State Readings) → m .sender ≢ i → T (not (badPlace kind (group .coordinator (m .view)) i (m .sender)))
-        → Current law group i kind s m → Tells law group fed f kind m → Keeps law group fed f i (receive law group i kind s m)
+        → Current kind s m → Tells law group fed f kind m → Keeps law group fed f i (receive law group i kind s m)
     unfolding receive badPlace
-    receive-keeps Propose m d u c q =
-        adopt-keeps law group fed f i s _ _ _ _ (q .0) _ _ ok t (rw (c .now) at (q .1)) (q .2) (c .up)
+    receive-keeps Kind.Propose m d u c q =
+        adopt-keeps law group fed f i s _ _ _ (q .0) _ _ ok t (rw (c .now) at (q .1)) (q .2) (c .up)
         (elsewhere (group .coordinator (m .view)) (m .sender) d u) (c .from1) (q .0, inr (refl, refl, refl, refl)) tt
-    receive-keeps Ack m d u c q =
+    receive-keeps Kind.Ack m d u c q =
         let (e, n) = ack-wanted m c in
         ack-keeps law group fed f i s (m .sender) (q .0) ok t (ap (group .coordinator) (sym e) ∙ here (group .coordinator (m .view)) u) (c .from1) n
         (rw (c .now, e) at (q .1))
-    receive-keeps Decide m d u c q =
+    receive-keeps Kind.Decide m d u c q =
         let p : f .proposed (m .view) (s .period) (q .0) = rw (c .now) at (q .1) in
-        adopt-keeps law group fed f i s _ _ _ _ (q .0) _ _ ok t p (q .2) (c .up)
-        (elsewhere (group .coordinator (m .view)) (m .sender) d u) (c .from1) tt (
-          m .view,
-          q .0,
-          p,
-          chosen-kept group (grown-accepted {coordinator = group .coordinator} f i (m .view) (s .period) (q .0) .kept) (m .view) (s .period) (q .0) (rw (c .now) at (q .3)),
-          made-run law (q .0) (m .state) (m .readings) (let r = ok .rows (m .view) (s .period) (q .0) p in omega arith) (q .2),
-        )
-    receive-keeps Estimate m d u c q =
+        let kept = grown-accepted {coordinator = group .coordinator} f i (m .view) (s .period) (q .0) .kept in
+        let chosen = chosen-kept group kept (m .view) (s .period) (q .0) (rw (c .now) at (q .3)) in
+        adopt-keeps law group fed f i s _ _ _ (q .0) _ _ ok t p (q .2) (c .up)
+        (elsewhere (group .coordinator (m .view)) (m .sender) d u) (c .from1) tt (refl, (m .view, q .0, p, chosen, q .2))
+    receive-keeps Kind.Estimate m d u c q =
         let co = here (group .coordinator (m .view)) u in
         pick-ok (Keeps law group fed f i) (ltb (s .view) (m .view)) _ _
         (λ z. let up = ltb→lt (s .view) (m .view) z in
+        let g = entering law group fed f i s (t .rows) ok (t .ties) (c .from1) (m .view) up in
         keeps-then law group fed i (hearEstimate law group i (entered i s (m .view)) (estimateOf m))
         (grown-estimated f i (m .view) (s .period) (s .baseView) (s .basePeriod) (t .rows))
-        (estimate-keeps law group fed (entering law group fed f i s (t .rows) ok (t .ties) (c .from1) (m .view) up) i (entered i s (m .view)) (t .rows) (estimateOf m) (q .0)
+        (estimate-keeps law group fed g i (entered i s (m .view)) (t .rows) (estimateOf m) (q .0)
         (entering-consistent law group fed f i s (t .rows) ok (t .ties) (c .from1) (m .view) up)
         (entered-ties law group fed f i s (t .rows) ok (t .ties) (c .from1) (m .view) up) co (c .from1) refl
         (entered-hears law group fed f i s (t .rows) ok (t .ties) (c .from1) (m .view) up) refl (inl (rw (c .now) at (q .1))) (q .2)))
@@ -216,7 +209,8 @@ module _ {State Readings : Type 0} (law : Law State Readings) (group : Group) (f
         let e : m .view ≡ s .view = omega arith in
         let co′ : group .coordinator (s .view) ≡ i = ap (group .coordinator) (sym e) ∙ co in
         let n = estimate-wanted m c e in
-        estimate-keeps law group fed f i s (t .rows) (estimateOf m) (q .0) ok (t .ties) co′ (c .from1) n (t .change co′ n) refl (rw (c .now, e) at (q .1)) (q .2))
+        estimate-keeps law group fed f i s (t .rows) (estimateOf m) (q .0) ok (t .ties) co′ (c .from1) n (t .change co′ n) refl
+        (rw (c .now, e) at (q .1)) (q .2))
 
     pub arrive-keeps : (m : Message State Readings) → Tells law group fed f (m .kind) m → Keeps law group fed f i (arrive law group i s m)
     unfolding arrive
@@ -224,5 +218,5 @@ module _ {State Readings : Type 0} (law : Law State Readings) (group : Group) (f
         pick-ok (Keeps law group fed f i) (badSender (group .size) i (m .sender)) _ _ (λ _. same f i s 9 ok t)
         (λ a. pick-ok (Keeps law group fed f i) (badPlace (m .kind) (group .coordinator (m .view)) i (m .sender)) _ _ (λ _. same f i s 10 ok t)
         (λ b. pick-ok (Keeps law group fed f i) (badBase (m .kind) (m .period) (m .view) (m .baseView) (m .basePeriod)) _ _ (λ _. same f i s 11 ok t)
-        (λ _. pick-ok (Keeps law group fed f i) (ignores law group i s m) _ _ (λ _. ignored f i s ok t)
-        (λ c. receive-keeps (m .kind) m (another (group .size) i (m .sender) a) b (current law group i s m c) q))))
+        (λ _. pick-ok (Keeps law group fed f i) (ignores s m) _ _ (λ _. ignored f i s ok t)
+        (λ c. receive-keeps (m .kind) m (another (group .size) i (m .sender) a) b (current s m c) q))))

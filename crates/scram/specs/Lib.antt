@@ -1,6 +1,7 @@
--- The definitions, in the order to read: quorums, what a replica holds, the events, and demand 3, over any law.
+-- The definitions, in the order to read: quorums, what a replica holds, the events, histories, demand 3 and what an implementation must show, over any law.
 pub mod Quorum
-pub mod Replica
+pub mod Held
 pub mod Events
+pub mod History
 pub mod Demand3
 pub mod Shown

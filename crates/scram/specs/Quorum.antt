@@ -1,9 +1,10 @@
 -- Groups of boxes: majority, coordinator, the boxes heard, and which of two estimates is the better.
-use mathlib.Core.Bool.{Bool, true, false, cond, _&&_, _||_}
+use mathlib.Core.Bool.{Bool, true, false, _&&_, _||_}
 use mathlib.Core.List.{List}
 use Prim.Native.Nat.{ℕ, zero, suc, _+_, _/_, _%_}
 use lib.ListN.{getD, set, replicate}
 use lib.Dec.{eqb, ltb}
+use Rattle.lists.specs.Choice.{pick}
 
 -- "a majority is N/2 rounded down, plus 1"
 unfoldable pub majority : ℕ → ℕ
@@ -11,7 +12,7 @@ majority N = N / 2 + 1
 
 -- "The coordinator of view v is box (v mod N) + 1." No box, 0, coordinates a group of none.
 unfoldable pub coordinator : ℕ → ℕ → ℕ
-coordinator N v = cond (eqb N 0) 0 (v % N + 1)
+coordinator N v = pick (eqb N 0) 0 (v % N + 1)
 
 -- "Best is the largest base view, then the largest base period, then the lowest box number": whether an estimate with this base
 -- view, base period and box comes before another with base view v, base period k and box j
@@ -35,4 +36,4 @@ with heard j = set heard j true
 -- how many of the boxes 1 to N are in a set; "boxes above N aren't counted"
 unfoldable pub count : (ℕ → Bool) → ℕ → ℕ
 count p zero = 0
-count p (suc N) = cond (p (suc N)) 1 0 + count p N
+count p (suc N) = pick (p (suc N)) 1 0 + count p N

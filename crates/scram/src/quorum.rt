@@ -1,6 +1,6 @@
 // Majority, coordinator, the boxes heard, and which of two estimates is the better.
 ghost use mathlib.Core.Path.{_≡_};
-ghost use mathlib.Core.Bool.{cond};
+ghost use Rattle.lists.specs.Choice.{pick};
 ghost use Rattle.scram.specs.Quorum.{majority, coordinator, beats, among, count};
 
 // The majority of a group of n boxes.
@@ -61,7 +61,7 @@ pub fn count_heard(heard: [bool; 10], n: u8) -> u8
 
 // 1 where a box was heard, else 0.
 fn heard_one(heard: [bool; 10], j: u8) -> u8
-    ensures { λ r. ⌜ r ≡ cond (among heard j) 1 0 ⌝ }
+    ensures { λ r. ⌜ r ≡ pick (among heard j) 1 0 ⌝ }
 {
     let at = j as usize;
     if 10 <= at {

@@ -1,9 +1,6 @@
--- Laws of text, of lines played and of lines that are too long.
-pub mod TextLaws
-pub mod TextLengths
-pub mod RoundTrip
-pub mod LineLaws
-pub mod LongLines
-pub mod PlaceLaws
+-- Laws of a line played, how long it is and what it leaves, and of a script's lines.
+pub mod LineLengths
 pub mod PlayLaws
-pub mod OpeningLaws
+pub mod ScriptLaws
+pub mod Played
+pub mod Groups

@@ -1,5 +1,4 @@
--- The definitions, in the order to read: text, printed lines, a line played, and the first line of `rig`.
-pub mod Text
+-- The definitions, in the order to read: printed lines, a line played, and a whole script.
 pub mod Printing
 pub mod Play
-pub mod Opening
+pub mod Script

@@ -1,16 +1,26 @@
 -- The lines that are printed, each with its line feed, as bytes: 10 is a line feed, 32 a space, 45 a minus, 98 97 100 `bad`, 111 107 `ok`,
 -- 105 103 110 111 114 101 100 `ignored` and 114 `r`.
 use Prim.Native.Nat.{ℕ}
-use mathlib.Core.Bool.{cond}
 use mathlib.Core.List.{List, [], _∷_, _++_}
 use lib.ListN.{take}
 use lib.Dec.{eqb}
+use Rattle.lists.specs.Choice.{pick}
+use Rattle.text.specs.Printing.{decimal, listed}
 use Rattle.scram.specs.declared.Answer.{Answer}
 use Rattle.scram.specs.declared.Answer.the-variants.{Done, Ignored, Refused}
 use Rattle.frame.specs.Command.{commandValues}
 use Rattle.replica.specs.declared.Replica.{Replica}
 use Rattle.replica.specs.declared.Stepped.{Stepped}
-use Rattle.script.specs.Text.{decimal, listed}
+
+-- "A header line comes first": `no who answer k v vb kb x frame command`
+unfoldable pub headerLine : List ℕ
+headerLine =
+    110 ∷ 111 ∷ 32 ∷ 119 ∷ 104 ∷ 111 ∷ 32 ∷ 97 ∷ 110 ∷ 115 ∷ 119 ∷ 101 ∷ 114 ∷ 32 ∷ 107 ∷ 32 ∷ 118 ∷ 32 ∷ 118 ∷ 98 ∷ 32 ∷ 107 ∷ 98 ∷ 32 ∷ 120 ∷ 32
+    ∷ 102 ∷ 114 ∷ 97 ∷ 109 ∷ 101 ∷ 32 ∷ 99 ∷ 111 ∷ 109 ∷ 109 ∷ 97 ∷ 110 ∷ 100 ∷ 10 ∷ []
+
+-- `bad` alone: what the rig prints of a first line that is not of the form
+unfoldable pub badAlone : List ℕ
+badAlone = 98 ∷ 97 ∷ 100 ∷ 10 ∷ []
 
 -- "`r` and the number alone": what the rig prints of settings that are refused
 unfoldable pub refusalLine : ℕ → List ℕ
@@ -32,19 +42,20 @@ headWords number who answer = decimal number ++ ((32 ∷ decimal who) ++ (32 ∷
 
 -- "period, view, base view, base period", each behind a space
 unfoldable pub counterWords : Replica → List ℕ
-counterWords r = (32 ∷ decimal (r .period)) ++ ((32 ∷ decimal (r .view)) ++ ((32 ∷ decimal (r .«base_view»)) ++ (32 ∷ decimal (r .«base_period»))))
+counterWords r =
+    (32 ∷ decimal (r .held .period)) ++ ((32 ∷ decimal (r .held .view)) ++ ((32 ∷ decimal (r .held .«base_view»)) ++ (32 ∷ decimal (r .held .«base_period»))))
 
 -- "state", behind a space
 unfoldable pub stateWord : Replica → List ℕ
-stateWord r = 32 ∷ listed (take (r .settings .law .n) (r .state))
+stateWord r = 32 ∷ listed (take (r .settings .law .n) (r .held .estimate .state))
 
 -- "line number if a frame was sent", behind a space; "`-` stands where there is no frame"
 unfoldable pub sentWord : ℕ → ℕ → List ℕ
-sentWord number size = 32 ∷ cond (eqb size 0) (45 ∷ []) (decimal number)
+sentWord number size = 32 ∷ pick (eqb size 0) (45 ∷ []) (decimal number)
 
 -- "command", behind a space; "`-` stands where there is no .. command"
 unfoldable pub commandWord : ℕ → ℕ → List ℕ → List ℕ
-commandWord p size command = 32 ∷ cond (eqb size 0) (45 ∷ []) (listed (take p (commandValues command)))
+commandWord p size command = 32 ∷ pick (eqb size 0) (45 ∷ []) (listed (take p (commandValues command)))
 
 -- the line of a step: its number, the box, what the step gave, and the command area after it
 unfoldable pub stepLine : ℕ → ℕ → Stepped → List ℕ → List ℕ

@@ -1,6 +1,4 @@
-// Scripts played: what one event does to a box and to the frames sent, the line that is printed, and the first line of `rig`.
-pub mod opening;
-pub mod play;
-pub mod printing;
-pub mod run;
-mod text;
+// Scripts played: what one event does to a box and to the frames sent, the line that is printed, and what the programs print of a whole script.
+pub mod output;
+mod play;
+mod printing;

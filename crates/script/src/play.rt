@@ -1,16 +1,16 @@
-// One line of the bench played: at most one event at one box, with the frame that it sends and the line that is printed.
+// One line of a script played: at most one event at one box, with the frame that it sends and the line that is printed.
 ghost use mathlib.Core.Path.{_≡_};
-ghost use Prim.Native.Nat.{_≤_};
+ghost use Prim.Native.Nat.{_+_, _≤_};
 ghost use lib.ListN.{length};
 ghost use Rattle.replica.specs.Calls.{Gives};
-ghost use Rattle.script.specs.Text.{shown};
-ghost use Rattle.line.specs.Events.{rowOf};
+ghost use Rattle.text.specs.Printing.{Puts};
 ghost use Rattle.script.specs.Printing.{badLine};
-ghost use Rattle.script.specs.Play.{boxIn, lineIn, playable, roomy, placeOf, outcomeOf, eventOutcome, afterStep, afterEvent, Leaves, freshBox, freshBoxes};
+ghost use Rattle.script.specs.Play.{most, tableLength, boxIn, lineIn, playable, roomy, placeOf, outcomeOf, eventOutcome, afterStep, afterEvent, Leaves, freshBox, freshBoxes};
 use crate::printing::bad_line;
 use crate::printing::step_line;
+use frame::lengths::LONGEST_COMMAND;
+use frame::lengths::LONGEST_FRAME;
 use line::events::Event;
-use line::events::row_in;
 use line::frames::frame_of;
 use line::frames::keep;
 use line::frames::was_sent;
@@ -20,14 +20,21 @@ use replica::Settings;
 use replica::Stepped;
 use scram::Answer;
 
-// What a line leaves: the replica of its box, and the length of the text that is printed.
-pub struct Turn {
-    pub replica: Replica,
-    pub printed: usize,
+// "at most 500 lines": each has a slot in the table of frames and a place in the list of their lengths, and lines are counted from 1.
+pub(crate) const MOST: u32 = 500;
+
+pub(crate) const TABLE: usize = 34569;
+
+pub(crate) const LENGTHS: usize = 501;
+
+// What a line leaves: the replica of its box, and where the text that was printed ends.
+pub(crate) struct Turn {
+    pub(crate) replica: Replica,
+    pub(crate) end: usize,
 }
 
 // One event at a replica.
-pub fn step(
+fn step(
     replica: Replica,
     event: Event,
     readings: Readings,
@@ -91,25 +98,24 @@ fn is_playable(event: Event, number: u32, lengths: &[usize]) -> bool
 fn has_room(event: Event, number: u32, table: usize, lengths: usize) -> bool
     ensures { λ r. ⌜ r ≡ roomy event number table lengths ⌝ }
 {
-    if 500 < number {
+    if MOST < number {
         return false;
     }
     if 9 < box_of(event) {
         return false;
     }
-    if table < 34569 {
+    if table < TABLE {
         return false;
     }
-    501 <= lengths
+    LENGTHS <= lengths
 }
 
 // A line that is none of the format, or delivers a frame that was not sent.
-fn bad(replica: Replica, number: u32, text: &mut [u8]) -> Turn
-    requires { ⌜ length (now text) ≡ 256 ⌝ }
-    ensures { λ r. ⌜ (r .replica ≡ replica) × (shown (now (text .exit)) (r .printed) ≡ badLine number) ⌝ }
+fn bad(replica: Replica, number: u32, text: &mut [u8], at: usize) -> Turn
+    ensures { λ r. ⌜ (r .replica ≡ replica) × Puts (now (text .entry)) at (badLine number) (r .end) (now (text .exit)) ⌝ }
 {
-    let printed = bad_line(text, number);
-    Turn { replica, printed }
+    let end = bad_line(text, at, number);
+    Turn { replica, end }
 }
 
 // The event of a line that can be played, at the replica of its box.
@@ -121,15 +127,16 @@ fn play_event(
     table: &mut [u8],
     lengths: &mut [usize],
     text: &mut [u8],
+    at: usize,
 ) -> Turn
-    requires { ⌜ (lineIn event ≤ 500) × (number ≤ 500) × (34569 ≤ length (now table)) × (501 ≤ length (now lengths)) × (length (now text) ≡ 256) ⌝ }
+    requires { ⌜ (lineIn event ≤ most) × (number ≤ most) × (tableLength ≤ length (now table)) × (most + 1 ≤ length (now lengths)) ⌝ }
     ensures { λ r. ⌜ Leaves (afterStep (boxIn event) number (now (table .entry)) (now (lengths .entry)) (replica .settings)
-        (eventOutcome replica event readings (now (table .entry)) (now (lengths .entry)))) r (now (table .exit)) (now (lengths .exit)) (now (text .exit)) ⌝ }
+        (eventOutcome replica event readings (now (table .entry)) (now (lengths .entry)))) at r (now (table .exit)) (now (lengths .exit)) (now (text .entry)) (now (text .exit)) ⌝ }
 {
     let f = line_of(event);
     let size = lengths[f as usize];
-    let mut frame = [0u8; 69];
-    let mut command = [0u8; 24];
+    let mut frame = [0u8; LONGEST_FRAME];
+    let mut command = [0u8; LONGEST_COMMAND];
     let s = step(
         replica,
         event,
@@ -142,35 +149,31 @@ fn play_event(
     keep(table, number, &frame, sent);
     lengths[number as usize] = sent;
     let next = s.replica;
-    let printed = step_line(text, number, box_of(event), s, &command);
-    Turn {
-        replica: next,
-        printed,
-    }
+    let end = step_line(text, at, number, box_of(event), s, &command);
+    Turn { replica: next, end }
 }
 
-// The line of an event played, at the replica of its box, with m readings.
-pub fn play(
+// The line of an event played, at the replica of its box.
+pub(crate) fn play(
     replica: Replica,
     event: Event,
-    m: u8,
+    readings: Readings,
     number: u32,
-    line: &[u8],
     table: &mut [u8],
     lengths: &mut [usize],
-    text: &mut [u8; 256],
+    text: &mut [u8],
+    at: usize,
 ) -> Turn
-    ensures { λ r. ⌜ Leaves (afterEvent replica event (rowOf m (now (line .entry))) number (now (table .entry)) (now (lengths .entry)))
-        r (now (table .exit)) (now (lengths .exit)) (now (text .exit)) ⌝ }
+    ensures { λ r. ⌜ Leaves (afterEvent replica event readings number (now (table .entry)) (now (lengths .entry)))
+        at r (now (table .exit)) (now (lengths .exit)) (now (text .entry)) (now (text .exit)) ⌝ }
 {
     if !has_room(event, number, table.len(), lengths.len()) {
-        return bad(replica, number, text);
+        return bad(replica, number, text, at);
     }
     if !is_playable(event, number, lengths) {
-        return bad(replica, number, text);
+        return bad(replica, number, text, at);
     }
-    let readings = row_in(m, line);
-    play_event(replica, event, readings, number, table, lengths, text)
+    play_event(replica, event, readings, number, table, lengths, text, at)
 }
 
 // The place of the replica that an event is for: box b has place b, and place 0 is no box's.
@@ -193,7 +196,7 @@ fn made(settings: Settings, own: u8) -> Replica
 }
 
 // Fresh replicas, box b at place b; one that refuses every event where there is no such box.
-pub fn fresh(settings: Settings) -> [Replica; 10]
+pub(crate) fn fresh(settings: Settings) -> [Replica; 10]
     ensures { λ r. ⌜ r ≡ freshBoxes settings ⌝ }
 {
     [

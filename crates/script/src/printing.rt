@@ -1,47 +1,59 @@
 // The lines that are printed.
-ghost use mathlib.Core.Path.{_≡_};
-ghost use mathlib.Core.List.{[], _∷_};
+ghost use mathlib.Core.List.{_∷_};
 ghost use Prim.Native.Nat.{_≤_};
 ghost use lib.ListN.{length};
-ghost use Rattle.script.specs.Text.{shown, with as Text·with, decimal};
-ghost use Rattle.script.specs.Printing.{refusalLine, badLine, answerWord, headWords, counterWords, stateWord, sentWord, commandWord, stepLine};
-use crate::text::put_byte;
-use crate::text::put_decimal;
-use crate::text::put_list;
-use crate::text::put_word;
+ghost use Rattle.text.specs.Printing.{Puts, decimal};
+ghost use Rattle.script.specs.Play.{lineRoom, stateRoom};
+ghost use Rattle.script.specs.Printing.{headerLine, badAlone, refusalLine, badLine, answerWord, headWords, counterWords, stateWord, sentWord, commandWord, stepLine};
 use replica::Replica;
 use replica::Stepped;
 use scram::Answer;
+use text::printing::at_most;
+use text::printing::put_byte;
+use text::printing::put_decimal;
+use text::printing::put_list;
+use text::printing::put_word;
+
+// The header line.
+pub(crate) fn put_header(text: &mut [u8], at: usize) -> usize
+    ensures { λ r. ⌜ Puts (now (text .entry)) at headerLine r (now (text .exit)) ⌝ }
+{
+    put_word(text, at, b"no who answer k v vb kb x frame command\n")
+}
+
+// `bad` alone in a line.
+pub(crate) fn put_bad(text: &mut [u8], at: usize) -> usize
+    ensures { λ r. ⌜ Puts (now (text .entry)) at badAlone r (now (text .exit)) ⌝ }
+{
+    put_word(text, at, b"bad\n")
+}
 
 // `r` and the number of a refusal, alone in a line.
-pub fn refusal_line(text: &mut [u8; 256], number: u8) -> usize
-    ensures { λ r. ⌜ shown (now (text .exit)) r ≡ refusalLine number ⌝ }
+pub(crate) fn refusal_line(text: &mut [u8], at: usize, number: u8) -> usize
+    ensures { λ r. ⌜ Puts (now (text .entry)) at (refusalLine number) r (now (text .exit)) ⌝ }
 {
-    let at = put_refusal(text, 0, number);
+    let at = put_refusal(text, at, number);
     put_word(text, at, b"\n")
 }
 
 // The line number, a space and `bad`.
-pub(crate) fn bad_line(text: &mut [u8], number: u32) -> usize
-    requires { ⌜ length (now text) ≡ 256 ⌝ }
-    ensures { λ r. ⌜ shown (now (text .exit)) r ≡ badLine number ⌝ }
+pub(crate) fn bad_line(text: &mut [u8], at: usize, number: u32) -> usize
+    ensures { λ r. ⌜ Puts (now (text .entry)) at (badLine number) r (now (text .exit)) ⌝ }
 {
-    let at = put_decimal(text, 0, number);
+    let at = put_decimal(text, at, number);
     put_word(text, at, b" bad\n")
 }
 
 // `r` and the number of a refusal.
 fn put_refusal(text: &mut [u8], at: usize, number: u8) -> usize
-    requires { ⌜ length (now text) ≡ 256 ⌝ }
-    ensures { λ r. ⌜ shown (now (text .exit)) r ≡ Text·with (shown (now (text .entry)) at) (114 ∷ decimal number) ⌝ }
+    ensures { λ r. ⌜ Puts (now (text .entry)) at (114 ∷ decimal number) r (now (text .exit)) ⌝ }
 {
     let at = put_byte(text, at, 114);
     put_decimal(text, at, number as u32)
 }
 
 fn put_answer(text: &mut [u8], at: usize, answer: Answer) -> usize
-    requires { ⌜ length (now text) ≡ 256 ⌝ }
-    ensures { λ r. ⌜ shown (now (text .exit)) r ≡ Text·with (shown (now (text .entry)) at) (answerWord answer) ⌝ }
+    ensures { λ r. ⌜ Puts (now (text .entry)) at (answerWord answer) r (now (text .exit)) ⌝ }
 {
     match answer {
         Answer::Done => put_word(text, at, b"ok"),
@@ -52,19 +64,17 @@ fn put_answer(text: &mut [u8], at: usize, answer: Answer) -> usize
 
 // A space and a number.
 fn put_counter(text: &mut [u8], at: usize, n: u32) -> usize
-    requires { ⌜ length (now text) ≡ 256 ⌝ }
-    ensures { λ r. ⌜ shown (now (text .exit)) r ≡ Text·with (shown (now (text .entry)) at) (32 ∷ decimal n) ⌝ }
+    ensures { λ r. ⌜ Puts (now (text .entry)) at (32 ∷ decimal n) r (now (text .exit)) ⌝ }
 {
     let at = put_byte(text, at, 32);
     put_decimal(text, at, n)
 }
 
 // The line number, the box and the answer.
-fn put_head(text: &mut [u8], number: u32, who: u8, answer: Answer) -> usize
-    requires { ⌜ length (now text) ≡ 256 ⌝ }
-    ensures { λ r. ⌜ shown (now (text .exit)) r ≡ Text·with [] (headWords number who answer) ⌝ }
+fn put_head(text: &mut [u8], at: usize, number: u32, who: u8, answer: Answer) -> usize
+    ensures { λ r. ⌜ Puts (now (text .entry)) at (headWords number who answer) r (now (text .exit)) ⌝ }
 {
-    let at = put_decimal(text, 0, number);
+    let at = put_decimal(text, at, number);
     let at = put_counter(text, at, who as u32);
     let at = put_byte(text, at, 32);
     put_answer(text, at, answer)
@@ -72,27 +82,19 @@ fn put_head(text: &mut [u8], number: u32, who: u8, answer: Answer) -> usize
 
 // Period, view, base view and base period.
 fn put_counters(text: &mut [u8], at: usize, replica: Replica) -> usize
-    requires { ⌜ length (now text) ≡ 256 ⌝ }
-    ensures { λ r. ⌜ shown (now (text .exit)) r ≡ Text·with (shown (now (text .entry)) at) (counterWords replica) ⌝ }
+    ensures { λ r. ⌜ Puts (now (text .entry)) at (counterWords replica) r (now (text .exit)) ⌝ }
 {
-    let at = put_counter(text, at, replica.period);
-    let at = put_counter(text, at, replica.view);
-    let at = put_counter(text, at, replica.base_view);
-    put_counter(text, at, replica.base_period)
-}
-
-// How many of so many places are in use.
-fn at_most(n: usize, places: usize) -> usize
-    ensures { λ r. ⌜ (r ≤ places) × (n ≤ places → r ≡ n) × (places ≤ n → r ≡ places) ⌝ }
-{
-    if n < places { n } else { places }
+    let at = put_counter(text, at, replica.held.period);
+    let at = put_counter(text, at, replica.held.view);
+    let at = put_counter(text, at, replica.held.base_view);
+    put_counter(text, at, replica.held.base_period)
 }
 
 fn put_state(text: &mut [u8], at: usize, replica: Replica) -> usize
-    requires { ⌜ length (now text) ≡ 256 ⌝ }
-    ensures { λ r. ⌜ shown (now (text .exit)) r ≡ Text·with (shown (now (text .entry)) at) (stateWord replica) ⌝ }
+    ensures { λ r. ⌜ Puts (now (text .entry)) at (stateWord replica) r (now (text .exit)) × (length (stateWord replica) ≤ stateRoom) ⌝ }
 {
-    let state = replica.state;
+    let estimate = replica.held.estimate;
+    let state = estimate.state;
     let n = at_most(replica.settings.law.n, 6);
     let at = put_byte(text, at, 32);
     put_list(text, at, &state[0..n])
@@ -100,8 +102,7 @@ fn put_state(text: &mut [u8], at: usize, replica: Replica) -> usize
 
 // The line's own number where it sent a frame.
 fn put_sent(text: &mut [u8], at: usize, number: u32, size: usize) -> usize
-    requires { ⌜ length (now text) ≡ 256 ⌝ }
-    ensures { λ r. ⌜ shown (now (text .exit)) r ≡ Text·with (shown (now (text .entry)) at) (sentWord number size) ⌝ }
+    ensures { λ r. ⌜ Puts (now (text .entry)) at (sentWord number size) r (now (text .exit)) ⌝ }
 {
     let at = put_byte(text, at, 32);
     if size == 0 {
@@ -111,8 +112,7 @@ fn put_sent(text: &mut [u8], at: usize, number: u32, size: usize) -> usize
 }
 
 fn put_command(text: &mut [u8], at: usize, p: usize, size: usize, command: &[u8]) -> usize
-    requires { ⌜ length (now text) ≡ 256 ⌝ }
-    ensures { λ r. ⌜ shown (now (text .exit)) r ≡ Text·with (shown (now (text .entry)) at) (commandWord p size (now (command .entry))) ⌝ }
+    ensures { λ r. ⌜ Puts (now (text .entry)) at (commandWord p size (now (command .entry))) r (now (text .exit)) ⌝ }
 {
     let at = put_byte(text, at, 32);
     if size == 0 {
@@ -124,13 +124,20 @@ fn put_command(text: &mut [u8], at: usize, p: usize, size: usize, command: &[u8]
 }
 
 // The line of a step at a box: what the step gave, with its command area.
-pub(crate) fn step_line(text: &mut [u8], number: u32, who: u8, s: Stepped, command: &[u8]) -> usize
-    requires { ⌜ length (now text) ≡ 256 ⌝ }
-    ensures { λ r. ⌜ shown (now (text .exit)) r ≡ stepLine number who s (now (command .entry)) ⌝ }
+pub(crate) fn step_line(
+    text: &mut [u8],
+    at: usize,
+    number: u32,
+    who: u8,
+    s: Stepped,
+    command: &[u8],
+) -> usize
+    ensures { λ r. ⌜ Puts (now (text .entry)) at (stepLine number who s (now (command .entry))) r (now (text .exit))
+        × (length (stepLine number who s (now (command .entry))) ≤ lineRoom) ⌝ }
 {
     let replica = s.replica;
     let answer = s.answer;
-    let at = put_head(text, number, who, answer);
+    let at = put_head(text, at, number, who, answer);
     let at = put_counters(text, at, replica);
     let at = put_state(text, at, replica);
     let at = put_sent(text, at, number, s.frame);

@@ -6,7 +6,7 @@ use lib.IntN.{ℤ}
 use Rattle.readings.specs.declared.Readings.{Readings}
 use Rattle.readings.specs.Readings.{present}
 use Rattle.frame.specs.declared.Frame.{Frame}
-use Rattle.frame.specs.Marks.{bit}
+use Rattle.estimate.specs.Marks.{bit}
 use Rattle.frame.specs.Writing.{writeRefusal, written}
 use Rattle.winder.specs.Areas.{unlessRefused}
 use Rattle.winder.specs.LawAreas.{readingsOf}
@@ -21,8 +21,7 @@ frameOf ends counters state present values =
       view = getD counters 1 0;
       «base_view» = getD counters 2 0;
       «base_period» = getD counters 3 0;
-      state = state;
-      readings = readingsOf present values;
+      estimate = record { state = state; readings = readingsOf present values };
     }
 
 -- "0 kind ..; 1 sender"

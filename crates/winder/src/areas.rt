@@ -1,8 +1,9 @@
 // The areas of a caller as values of the law and the frames.
 ghost use mathlib.Core.Path.{_≡_};
-ghost use Rattle.frame.specs.Marks.{bit};
+ghost use Rattle.estimate.specs.Marks.{bit};
 ghost use Rattle.winder.specs.LawAreas.{readingsOf};
 ghost use Rattle.winder.specs.FrameAreas.{frameOf, marksOf};
+use estimate::Estimate;
 use frame::Frame;
 use readings::Readings;
 
@@ -34,6 +35,7 @@ pub(crate) fn frame_of(
 {
     let readings = readings_of(present, values);
     let state = *state;
+    let estimate = Estimate { state, readings };
     Frame {
         kind: ends[0],
         sender: ends[1],
@@ -41,8 +43,7 @@ pub(crate) fn frame_of(
         view: counters[1],
         base_view: counters[2],
         base_period: counters[3],
-        state,
-        readings,
+        estimate,
     }
 }
 

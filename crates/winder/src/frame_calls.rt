@@ -1,6 +1,6 @@
 // Reading and writing a frame.
 ghost use mathlib.Core.Path.{_≡_};
-ghost use Rattle.frame.specs.Bytes.{over};
+ghost use Rattle.bytes.specs.Areas.{over};
 ghost use Rattle.frame.specs.Reading.{readRefusal, readFrame};
 ghost use Rattle.frame.specs.Writing.{writeRefusal, written};
 ghost use Rattle.winder.specs.Areas.{unlessRefused};
@@ -24,9 +24,9 @@ pub extern "C" fn winder_read_frame(
     ensures answer { λ r. ⌜ r ≡ readRefusal n m (now (bytes .entry)) ⌝ }
     ensures ends { λ _. ⌜ now (ends .exit) ≡ unlessRefused (readRefusal n m (now (bytes .entry))) (endsOf (readFrame n m (now (bytes .entry)))) (now (ends .entry)) ⌝ }
     ensures counters { λ _. ⌜ now (counters .exit) ≡ unlessRefused (readRefusal n m (now (bytes .entry))) (countersOf (readFrame n m (now (bytes .entry)))) (now (counters .entry)) ⌝ }
-    ensures state { λ _. ⌜ now (state .exit) ≡ unlessRefused (readRefusal n m (now (bytes .entry))) (readFrame n m (now (bytes .entry)) .state) (now (state .entry)) ⌝ }
-    ensures present { λ _. ⌜ now (present .exit) ≡ unlessRefused (readRefusal n m (now (bytes .entry))) (marksOf (readFrame n m (now (bytes .entry)) .readings)) (now (present .entry)) ⌝ }
-    ensures values { λ _. ⌜ now (values .exit) ≡ unlessRefused (readRefusal n m (now (bytes .entry))) (readFrame n m (now (bytes .entry)) .readings .values) (now (values .entry)) ⌝ }
+    ensures state { λ _. ⌜ now (state .exit) ≡ unlessRefused (readRefusal n m (now (bytes .entry))) (readFrame n m (now (bytes .entry)) .estimate .state) (now (state .entry)) ⌝ }
+    ensures present { λ _. ⌜ now (present .exit) ≡ unlessRefused (readRefusal n m (now (bytes .entry))) (marksOf (readFrame n m (now (bytes .entry)) .estimate .readings)) (now (present .entry)) ⌝ }
+    ensures values { λ _. ⌜ now (values .exit) ≡ unlessRefused (readRefusal n m (now (bytes .entry))) (readFrame n m (now (bytes .entry)) .estimate .readings .values) (now (values .entry)) ⌝ }
 {
     let parsed = frame::read(n, m, bytes);
     let answer = parsed.answer;
@@ -37,9 +37,10 @@ pub extern "C" fn winder_read_frame(
     let frame = parsed.frame;
     *ends = [frame.kind, frame.sender];
     *counters = [frame.period, frame.view, frame.base_view, frame.base_period];
-    let x = frame.state;
+    let estimate = frame.estimate;
+    let x = estimate.state;
     *state = x;
-    let readings = frame.readings;
+    let readings = estimate.readings;
     *present = marks_of(readings);
     let given = readings.values;
     *values = given;

@@ -2,6 +2,11 @@
 
 use std::iter;
 
+use second::law::Settings;
+
+/// The readings of every call and tick that is measured.
+pub const VALUES: [i32; 4] = [103, 204, 305, 406];
+
 const HALF: i32 = 32_768;
 const ONE: i32 = 65_536;
 
@@ -35,6 +40,31 @@ impl Law {
             start: table(1, n, 6, 10, 20),
         }
     }
+
+    /// The same settings for the second implementation.
+    pub fn settings(&self) -> Settings {
+        let size = |size: usize| u8::try_from(size).expect("at most 6");
+        Settings {
+            n: size(self.n),
+            m: size(self.m),
+            p: size(self.p),
+            a: rows(&self.a),
+            l: rows(&self.l),
+            c: rows(&self.c),
+            k: rows(&self.k),
+            lower: self.low,
+            upper: self.high,
+            start: self.start,
+        }
+    }
+}
+
+fn rows<const ROWS: usize, const WIDTH: usize>(table: &[i32]) -> [[i32; WIDTH]; ROWS] {
+    let mut rows = [[0; WIDTH]; ROWS];
+    for (row, places) in rows.iter_mut().zip(table.chunks(WIDTH)) {
+        row.copy_from_slice(places);
+    }
+    rows
 }
 
 /// A table with one value on its diagonal and another off it.

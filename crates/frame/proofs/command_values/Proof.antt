@@ -1,15 +1,17 @@
 -- `frame::command_values` meets its contract: the bytes behind the eighth are read into four places. Assumes nothing.
 use borrow.Author.Tests.{le-leb, lt-leb}
-use Rattle.readings.specs.Places.{filled}
+use Rattle.lists.specs.Choice.{pick}
+use Rattle.lists.specs.Places.{filled}
+use Rattle.frame.specs.Lengths.{commandStart, longestCommand}
 use Rattle.frame.specs.Command.{commandValues}
-use Rattle.frame.proofs.Areas.{to-the-end}
+use Rattle.lists.proofs.Parts.{to-the-end}
 use borrow.Author.Needs.{needs}
 use Rattle.frame.proofs.command_values.Statement.{statement}
 use Rattle.frame.proofs.command_values.Tie as tie
 
 returns : tie.Need-returns
-unfolding commandValues filled
-returns c = rw (lt-leb 24 _ (c .if1 .taken))
+unfolding commandValues filled pick
+returns c = rw (lt-leb longestCommand _ (c .if1 .taken))
 
 sub-read-values : tie.Need-sub-read-values
 sub-read-values c = search needs
@@ -27,10 +29,10 @@ read-values-requires : tie.Need-read-values-requires
 read-values-requires c κs = search needs
 
 returns-2 : tie.Need-returns-2
-unfolding commandValues
+unfolding commandValues pick
 returns-2 c =
     let area = c .before .before .before .before .before .before .args .area .now in
-    rw (c .before .read-values .ensures, to-the-end area 8, le-leb 24 _ (c .before .before .before .before .if1 .left))
+    rw (c .before .read-values .ensures, to-the-end area commandStart, le-leb longestCommand _ (c .before .before .before .before .if1 .left))
 
 pub command-values-spec : {M : Type 1} → statement M
 command-values-spec =

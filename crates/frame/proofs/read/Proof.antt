@@ -1,71 +1,89 @@
 -- `frame::read` meets its contract: each test of the code is one of the conditions, in their order. Assumes nothing.
 use mathlib.Core.Path.{_≡_, sym, ap, _∙_}
-use mathlib.Core.Bool.{true, false}
-use Prim.Native.Nat.{_+_, _*_}
+use mathlib.Core.Bool.{true, false, _&&_}
+use Prim.Native.Nat.{_+_}
 use native.Mathlib.Omega.{arith}
-use borrow.Author.Tests.{eq-eqb, ne-eqb, not-true, not-false}
+use borrow.Author.Needs.{needs}
+use borrow.Author.Tests.{not-true, not-false}
 use lib.ListN.{length}
+use Rattle.estimate.specs.Lengths.{estimateLength}
+use Rattle.estimate.specs.Marks.{marksBelow, absentZero}
+use Rattle.estimate.specs.Reading.{readingsOk, estimateAt, estimateOk}
 use Rattle.frame.specs.Answers.{number}
 use Rattle.frame.specs.Sizes.{sizesOk}
-use Rattle.frame.specs.Reading.{pairsOk, headerOk, partsOk, isFrame, fieldsIn, readRefusal}
-use Rattle.frame.proofs.Conditions.{Sized, sizes, Header, header-facts, header-there, full-len}
-use Rattle.frame.proofs.Refusals.{read-sizes, read-malformed, read-done, no-frame, frame-read, bad-header, good-ack, by-parts}
-use borrow.Author.Needs.{needs}
+use Rattle.frame.specs.Kinds.{hasParts}
+use Rattle.frame.specs.Lengths.{partsStart}
+use Rattle.frame.specs.Reading.{kindIn, pairsOk, headerOk, partsOk, isFrame, headed, readRefusal}
+use Rattle.frame.proofs.Conditions.{Sized, sizes, Header, header-facts, header-there, parts-length}
+use Rattle.frame.proofs.Refusals.{read-sizes, read-malformed, read-done, no-frame, frame-read}
+use Rattle.frame.proofs.Refusals.{bad-header, good-header, by-parts, no-parts-fields, parts-fields}
 use Rattle.frame.proofs.read.Statement.{statement}
 use Rattle.frame.proofs.read.Tie as tie
 
--- n and m are within their ranges behind the first test
-sized-test : (c : tie.Else1) → sizesOk (c .before .before .before .args .n) (c .before .before .before .args .m) ≡ true
-sized-test c = sym (c .before .sizes-ok .ensures) ∙ not-false _ (c .if1 .left)
+-- ---- what is known behind each test
 
-sized : (c : tie.Else1) → Sized (c .before .before .before .args .n) (c .before .before .before .args .m)
-sized c = sizes _ _ (sized-test c)
+abbrev given : tie.Else1 → tie.Start
+given c = c .before .before .before
 
-malformed : (c : tie.Else1) → isFrame (c .before .before .before .args .n) (c .before .before .before .args .m) (c .before .before .before .args .bytes .now) ≡ false
-    → readRefusal (c .before .before .before .args .n) (c .before .before .before .args .m) (c .before .before .before .args .bytes .now) ≡ 8
-malformed c bad = read-malformed _ _ _ (sized-test c) bad
+-- n and m are within their ranges
+module _ (c : tie.Else1) where
+  sized-test : sizesOk (given c .args .n) (given c .args .m) ≡ true
+  sized-test = sym (c .before .sizes-ok .ensures) ∙ not-false _ (c .if1 .left)
 
--- the header is as it must be behind the second
-headed-test : (c : tie.Else2)
-    → headerOk (c .before .before .before .before .before .args .n) (c .before .before .before .before .before .args .m)
-    (c .before .before .before .before .before .args .bytes .now) ≡ true
-headed-test c = sym (c .before .header-ok .ensures) ∙ not-false _ (c .if2 .left)
+  sized : Sized (given c .args .n) (given c .args .m)
+  sized = sizes _ _ sized-test
 
-headed : (c : tie.Else2)
-    → Header (c .before .before .before .before .before .args .n) (c .before .before .before .before .before .args .m)
-    (c .before .before .before .before .before .args .bytes .now)
-headed c = header-facts _ _ _ (headed-test c)
+  malformed : isFrame (given c .args .n) (given c .args .m) (given c .args .bytes .now) ≡ false
+      → readRefusal (given c .args .n) (given c .args .m) (given c .args .bytes .now) ≡ 8
+  malformed bad = read-malformed _ _ _ sized-test bad
 
--- behind the third the frame has parts
-with-parts : (c : tie.Else3)
-    → length (c .before .before .before .before .before .before .before .args .bytes .now)
-    ≡ 29 + 4 * c .before .before .before .before .before .before .before .args .n + 4 * c .before .before .before .before .before .before .before .args .m
-with-parts c = full-len _ _ _ (headed (c .before .before)) (ne-eqb _ _ (c .if3 .left))
+abbrev given-2 : tie.Else2 → tie.Start
+given-2 c = given (c .before .before)
 
-in-parts : (c : tie.Else3)
-    → isFrame (c .before .before .before .before .before .before .before .args .n)
-    (c .before .before .before .before .before .before .before .args .m)
-    (c .before .before .before .before .before .before .before .args .bytes .now)
-    ≡ partsOk (c .before .before .before .before .before .before .before .args .n)
-    (c .before .before .before .before .before .before .before .args .m)
-    (c .before .before .before .before .before .before .before .args .bytes .now)
-in-parts c = by-parts _ _ _ (headed-test (c .before .before)) (ne-eqb _ _ (c .if3 .left))
+-- the header is as it must be
+module _ (c : tie.Else2) where
+  headed-test : headerOk (given-2 c .args .n) (given-2 c .args .m) (given-2 c .args .bytes .now) ≡ true
+  headed-test = sym (c .before .header-ok .ensures) ∙ not-false _ (c .if2 .left)
 
-paired : (c : tie.Else4)
-    → pairsOk (c .before .before .before .before .before .before .before .before .before .args .n)
-    (c .before .before .before .before .before .before .before .before .before .args .m)
-    (c .before .before .before .before .before .before .before .before .before .args .bytes .now) ≡ true
+  header : Header (given-2 c .args .n) (given-2 c .args .m) (given-2 c .args .bytes .now)
+  header = header-facts _ _ _ headed-test
+
+abbrev given-3 : tie.Else3 → tie.Start
+given-3 c = given-2 (c .before .before .before)
+
+-- the frame has parts
+module _ (c : tie.Else3) where
+  parts-test : hasParts (kindIn (given-3 c .args .bytes .now)) ≡ true
+  parts-test = sym (c .before .has-parts .ensures) ∙ not-false _ (c .if3 .left)
+
+  with-parts : length (given-3 c .args .bytes .now) ≡ partsStart + estimateLength (given-3 c .args .n) (given-3 c .args .m)
+  with-parts = parts-length _ _ _ (header (c .before .before .before)) parts-test
+
+  in-parts : isFrame (given-3 c .args .n) (given-3 c .args .m) (given-3 c .args .bytes .now)
+      ≡ partsOk (given-3 c .args .n) (given-3 c .args .m) (given-3 c .args .bytes .now)
+  in-parts = by-parts _ _ _ (headed-test (c .before .before .before)) parts-test
+
+abbrev given-4 : tie.Else4 → tie.Start
+given-4 c = given-3 (c .before .before)
+
+-- the pairs are as they must be
+paired : (c : tie.Else4) → pairsOk (given-4 c .args .n) (given-4 c .args .m) (given-4 c .args .bytes .now) ≡ true
 paired c = sym (c .before .pairs-ok .ensures) ∙ not-false _ (c .if4 .left)
 
+abbrev given-5 : tie.After-readings-ok → tie.Start
+given-5 c = given-4 (c .before .before .before .before)
+
 -- what the last test says of the parts
-judged : (c : tie.After-readings-ok)
-    → c .readings-ok .result
-    ≡ partsOk (c .before .before .before .before .before .before .before .before .before .before .before .before .args .n)
-    (c .before .before .before .before .before .before .before .before .before .before .before .before .args .m)
-    (c .before .before .before .before .before .before .before .before .before .before .before .before .args .bytes .now)
-unfolding partsOk
+judged : (c : tie.After-readings-ok) → c .readings-ok .result ≡ partsOk (given-5 c .args .n) (given-5 c .args .m) (given-5 c .args .bytes .now)
+unfolding partsOk estimateOk readingsOk estimateAt
 judged c =
-    let p = c .before .before .read-parts .ensures in c .readings-ok .ensures ∙ rw (p .1, p .2, paired (c .before .before .before))
+    let m = given-5 c .args .m in
+    let p = c .before .before .before .read-parts .ensures in
+    c .readings-ok .ensures
+    ∙ (λ i. marksBelow m (p .0 i) && absentZero m (p .1 i .readings))
+    ∙ rw (paired (c .before .before .before .before))
+
+-- ---- what is to be shown
 
 sizes-ok-requires : tie.Need-sizes-ok-requires
 sizes-ok-requires c κs = search needs
@@ -88,29 +106,37 @@ refused-read-requires-2 c κs = search needs
 returns-2 : tie.Need-returns-2
 returns-2 c =
     let a = c .before .before .before .before .before .before .args in
-    let e = malformed (c .before .before .before) (bad-header (a .n) (a .m) (a .bytes .now) (sym (c .before .before .header-ok .ensures) ∙ not-true _ (c .before .if2 .taken))) in
+    let bad = sym (c .before .before .header-ok .ensures) ∙ not-true _ (c .before .if2 .taken) in
+    let e = malformed (c .before .before .before) (bad-header (a .n) (a .m) (a .bytes .now) bad) in
     (ap number (c .refused-read2 .ensures .0) ∙ sym e, c .refused-read2 .ensures .1 ∙ sym (no-frame (a .n) (a .m) (a .bytes .now) 7 e))
 
 shared-slice-read-kind : tie.Need-shared-slice-read-kind
-shared-slice-read-kind c = omega (arith, header-there _ _ _ (headed (c .before)))
+shared-slice-read-kind c = omega (arith, header-there _ _ _ (header (c .before)))
 
-no-readings-requires : tie.Need-no-readings-requires
-no-readings-requires c κs = search needs
+has-parts-requires : tie.Need-has-parts-requires
+has-parts-requires c κs = search needs
+
+no-estimate-requires : tie.Need-no-estimate-requires
+no-estimate-requires c κs = search needs
 
 headed-by-requires : tie.Need-headed-by-requires
-headed-by-requires c κs = header-there _ _ _ (headed (c .before .before .before))
+headed-by-requires c κs = header-there _ _ _ (header (c .before .before .before .before))
 
 returns-3 : tie.Need-returns-3
-unfolding fieldsIn
 returns-3 c =
-    let a = c .before .before .before .before .before .before .before .before .before .args in
-    let k = eq-eqb _ _ (c .before .before .if3 .taken) in
-    let e = read-done (a .n) (a .m) (a .bytes .now) (sized-test (c .before .before .before .before .before .before))
-    (good-ack (a .n) (a .m) (a .bytes .now) (headed-test (c .before .before .before .before)) k) in
-    (sym e, c .headed-by .ensures ∙ rw (c .before .no-readings .ensures, frame-read (a .n) (a .m) (a .bytes .now) e, k))
+    let passed = c .before .before .before .before .before in
+    let a = given-2 passed .args in
+    let k = sym (c .before .before .before .has-parts .ensures) ∙ not-true _ (c .before .before .if3 .taken) in
+    let good = good-header (a .n) (a .m) (a .bytes .now) (headed-test passed) k in
+    let e = read-done (a .n) (a .m) (a .bytes .now) (sized-test (passed .before .before)) good in (
+      sym e,
+      c .headed-by .ensures
+          ∙ ap (headed (a .bytes .now)) (c .before .no-estimate .ensures)
+          ∙ sym (frame-read (a .n) (a .m) (a .bytes .now) e ∙ no-parts-fields (a .n) (a .m) (a .bytes .now) k),
+    )
 
 pairs-ok-requires : tie.Need-pairs-ok-requires
-pairs-ok-requires c κs = let s = sized (c .before .before .before .before) in (s .n-high, s .m-high, omega (arith, with-parts c))
+pairs-ok-requires c κs = let s = sized (c .before .before .before .before .before) in (s .n-high, s .m-high, omega (arith, with-parts c))
 
 refused-read-requires-3 : tie.Need-refused-read-requires-3
 refused-read-requires-3 c κs = search needs
@@ -118,48 +144,43 @@ refused-read-requires-3 c κs = search needs
 returns-4 : tie.Need-returns-4
 unfolding partsOk
 returns-4 c =
-    let a = c .before .before .before .before .before .before .before .before .before .before .args in
-    let e = malformed (c .before .before .before .before .before .before .before)
-    (in-parts (c .before .before .before) ∙ rw (sym (c .before .before .pairs-ok .ensures) ∙ not-true _ (c .before .if4 .taken))) in
+    let passed = c .before .before .before in
+    let a = given-3 passed .args in
+    let e = malformed (passed .before .before .before .before .before)
+    (in-parts passed ∙ rw (sym (c .before .before .pairs-ok .ensures) ∙ not-true _ (c .before .if4 .taken))) in
     (ap number (c .refused-read3 .ensures .0) ∙ sym e, c .refused-read3 .ensures .1 ∙ sym (no-frame (a .n) (a .m) (a .bytes .now) 7 e))
 
 read-parts-requires : tie.Need-read-parts-requires
-read-parts-requires c κs = let s = sized (c .before .before .before .before .before .before) in (s .n-high, s .m-high, with-parts (c .before .before), paired c)
+read-parts-requires c κs =
+    let s = sized (c .before .before .before .before .before .before .before) in (s .n-high, s .m-high, with-parts (c .before .before), paired c)
 
 readings-ok-requires : tie.Need-readings-ok-requires
-readings-ok-requires c κs = let s = sized (c .before .before .before .before .before .before .before .before) in (s .m-low, s .m-high)
+readings-ok-requires c κs = let s = sized (c .before .before .before .before .before .before .before .before .before .before) in (s .m-low, s .m-high)
 
 refused-read-requires-4 : tie.Need-refused-read-requires-4
 refused-read-requires-4 c κs = search needs
 
 returns-5 : tie.Need-returns-5
 returns-5 c =
-    let a = c .before .before .before .before .before .before .before .before .before .before .before .before .before .before .args in
+    let passed = c .before .before .before .before .before .before .before .before in
+    let a = given-3 passed .args in
     let bad = sym (judged (c .before .before)) ∙ not-true _ (c .before .if5 .taken) in
-    let e = malformed (c .before .before .before .before .before .before .before .before .before .before .before)
-    (in-parts (c .before .before .before .before .before .before .before) ∙ bad) in
+    let e = malformed (passed .before .before .before .before .before) (in-parts passed ∙ bad) in
     (ap number (c .refused-read4 .ensures .0) ∙ sym e, c .refused-read4 .ensures .1 ∙ sym (no-frame (a .n) (a .m) (a .bytes .now) 7 e))
 
 headed-by-requires-2 : tie.Need-headed-by-requires-2
-headed-by-requires-2 c κs = header-there _ _ _ (headed (c .before .before .before .before .before .before .before .before .before))
+headed-by-requires-2 c κs = header-there _ _ _ (header (c .before .before .before .before .before .before .before .before .before .before))
 
 returns-6 : tie.Need-returns-6
-unfolding fieldsIn
 returns-6 c =
-    let a = c .before .before .before .before .before .before .before .before .before .before .before .before .before .before .before .args in
-    let p = c .before .before .before .before .before .read-parts .ensures in
-    let good = sym (judged (c .before .before .before)) ∙ not-false _ (c .before .before .if5 .left) in
-    let e = read-done (a .n) (a .m) (a .bytes .now)
-    (sized-test (c .before .before .before .before .before .before .before .before .before .before .before .before))
-    (in-parts (c .before .before .before .before .before .before .before .before) ∙ good) in (
+    let passed = c .before .before .before .before .before .before .before .before in
+    let a = given-3 passed .args in
+    let good = sym (judged (c .before .before)) ∙ not-false _ (c .before .if5 .left) in
+    let e = read-done (a .n) (a .m) (a .bytes .now) (sized-test (passed .before .before .before .before .before)) (in-parts passed ∙ good) in (
       sym e,
       c .headed-by2 .ensures
-          ∙ rw (
-            p .0,
-            p .2,
-            frame-read (a .n) (a .m) (a .bytes .now) e,
-            ne-eqb _ _ (c .before .before .before .before .before .before .before .before .if3 .left),
-          ),
+          ∙ ap (headed (a .bytes .now)) (c .before .before .before .before .before .read-parts .ensures .1)
+          ∙ sym (frame-read (a .n) (a .m) (a .bytes .now) e ∙ parts-fields (a .n) (a .m) (a .bytes .now) (parts-test passed)),
     )
 
 pub read-spec : {M : Type 1} → statement M
@@ -173,7 +194,8 @@ read-spec =
     refused-read-requires-2
     returns-2
     shared-slice-read-kind
-    no-readings-requires
+    has-parts-requires
+    no-estimate-requires
     headed-by-requires
     returns-3
     pairs-ok-requires

@@ -4,11 +4,11 @@ use borrow.Author.Needs.{needs}
 use Rattle.frame.proofs.refused_read.Statement.{statement}
 use Rattle.frame.proofs.refused_read.Tie as tie
 
-no-readings-requires : tie.Need-no-readings-requires
-no-readings-requires c κs = search needs
+no-estimate-requires : tie.Need-no-estimate-requires
+no-estimate-requires c κs = search needs
 
 returns : tie.Need-returns
-returns c = (refl, rw (c .no-readings .ensures))
+returns c = (refl, rw (c .no-estimate .ensures))
 
 pub refused-read-spec : {M : Type 1} → statement M
-refused-read-spec = tie.close (tie.spec no-readings-requires returns)
+refused-read-spec = tie.close (tie.spec no-estimate-requires returns)

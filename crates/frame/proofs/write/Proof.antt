@@ -5,7 +5,7 @@ use borrow.Author.Needs.{needs}
 use borrow.Author.Tests.{not-true, not-false}
 use Rattle.frame.specs.Answers.{number}
 use Rattle.frame.specs.Sizes.{sizesOk}
-use Rattle.frame.proofs.Areas.{put-front}
+use Rattle.bytes.proofs.Areas.{put-front}
 use Rattle.frame.proofs.Conditions.{sizes}
 use Rattle.frame.proofs.Refusals.{write-sizes, write-area, write-malformed, write-done, nothing-written, frame-written}
 use Rattle.frame.proofs.write.Statement.{statement}

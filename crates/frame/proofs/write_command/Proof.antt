@@ -4,7 +4,7 @@ use mathlib.Core.Bool.{true}
 use borrow.Author.Tests.{le-leb, lt-leb}
 use Rattle.frame.specs.Answers.{number}
 use Rattle.frame.specs.Sizes.{commandsOk}
-use Rattle.frame.proofs.Areas.{put-front}
+use Rattle.bytes.proofs.Areas.{put-front}
 use Rattle.frame.proofs.Refusals.{command-sizes, command-area, command-done, no-command, command-written}
 use borrow.Author.Needs.{needs}
 use Rattle.frame.proofs.write_command.Statement.{statement}

@@ -1,6 +1,6 @@
 -- `law::check` meets its contract: the tables of settings make those settings, but for the starting state, which no call looks at. Assumes nothing.
 use borrow.Author.Needs.{needs}
-use Rattle.law.specs.Settings.{refusal}
+use Rattle.law.specs.Settings.{refusals, refusal}
 use Rattle.law.proofs.check.Statement.{statement}
 use Rattle.law.proofs.check.Tie as tie
 
@@ -8,7 +8,7 @@ check-requires : tie.Need-check-requires
 check-requires c κs = search needs
 
 returns : tie.Need-returns
-unfolding refusal
+unfolding refusal refusals
 returns c = c .check .ensures
 
 pub check-spec : {M : Type 1} → statement M

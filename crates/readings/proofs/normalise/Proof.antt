@@ -11,9 +11,9 @@ use mir.Val.{SFits, toZ, ofZ}
 use mir.Facts.{toZ-ofZ}
 use borrow.Author.Needs.{needs}
 use Rattle.readings.specs.declared.Readings.{Readings}
-use Rattle.readings.specs.Places.{entry, filled}
+use Rattle.lists.specs.Places.{entry, filled}
 use Rattle.readings.specs.Readings.{present, value, normalised}
-use Rattle.readings.proofs.Places.{filled-none, filled-more, filled-most}
+use Rattle.lists.proofs.Places.{filled-none, filled-more, filled-most}
 use Rattle.readings.proofs.normalise.Statement.{statement}
 use Rattle.readings.proofs.normalise.Tie as tie
 
@@ -66,7 +66,8 @@ loop-again c =
     let y = c .before .before .before .before .before .before .before .args .y in
     let h = c .before .before .before .before .in-use .ensures .0 in
     let fits : SFits w32 (entry (y .values) (l .j)) = record { sfits = c .before .value .given } in
-    let v : toZ w32 (ofZ w32 (c .read-value .result)) ≡ value y (l .j) = toZ-ofZ (record { sfits = c .read-value .ok }) ∙ (simp (toZ-ofZ, fits) at (c .read-value .ensures)) in (
+    let v : toZ w32 (ofZ w32 (c .read-value .result)) ≡ value y (l .j) =
+    toZ-ofZ (record { sfits = c .read-value .ok }) ∙ (simp (toZ-ofZ, fits) at (c .read-value .ensures)) in (
       omega arith,
       ap (λ (t : List Bool). set t (l .j) (present y (l .j))) (l .inv .1) ∙ filled-more false 4 (l .j) (present y) (omega arith),
       ap₂ (λ (t : List ℤ) (z : ℤ). set t (l .j) z) (l .inv .2) v ∙ filled-more (pos 0) 4 (l .j) (value y) (omega arith),

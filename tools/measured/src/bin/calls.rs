@@ -4,7 +4,7 @@
 use std::env;
 use std::hint::black_box;
 
-use measured::group::Law;
+use measured::group::{Law, VALUES};
 use second::law::{self, Readings, Settings, State};
 
 #[link(name = "winder", kind = "static")]
@@ -38,8 +38,6 @@ extern "C" {
     ) -> u32;
 }
 
-const VALUES: [i32; 4] = [103, 204, 305, 406];
-
 fn main() {
     let words: Vec<String> = env::args().skip(1).collect();
     let [library, call, n, m, p, count, rest @ ..] = words.as_slice() else {
@@ -55,11 +53,11 @@ fn main() {
         ("first", "command") => run.command(|x, out| first_command(&law, x, out)),
         ("first", _) => run.update(law.start, |x| first_update(&law, x)),
         (_, "command") => {
-            let settings = settings(&law);
+            let settings = law.settings();
             run.command(|x, out| second_command(&settings, x, out));
         }
         _ => {
-            let settings = settings(&law);
+            let settings = law.settings();
             run.update(law.start, |x| second_update(&settings, x));
         }
     }
@@ -153,29 +151,4 @@ fn second_command(settings: &Settings, state: &State, commands: &mut [i32; 4]) -
         }
         Err(refusal) => refusal.number().into(),
     }
-}
-
-/// The same settings for the second implementation.
-fn settings(law: &Law) -> Settings {
-    let size = |size: usize| u8::try_from(size).expect("at most 6");
-    Settings {
-        n: size(law.n),
-        m: size(law.m),
-        p: size(law.p),
-        a: rows(&law.a),
-        l: rows(&law.l),
-        c: rows(&law.c),
-        k: rows(&law.k),
-        lower: law.low,
-        upper: law.high,
-        start: law.start,
-    }
-}
-
-fn rows<const ROWS: usize, const WIDTH: usize>(table: &[i32]) -> [[i32; WIDTH]; ROWS] {
-    let mut rows = [[0; WIDTH]; ROWS];
-    for (row, places) in rows.iter_mut().zip(table.chunks(WIDTH)) {
-        row.copy_from_slice(places);
-    }
-    rows
 }

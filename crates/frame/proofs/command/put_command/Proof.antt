@@ -1,14 +1,17 @@
 -- `frame::command::put_command` meets its contract: the four bytes, the period and the values are put one behind the other. Assumes nothing.
-use mathlib.Core.Path.{_≡_, refl}
+use mathlib.Core.Path.{_≡_, refl, ap, _∙_}
 use mathlib.Core.List.{[], _∷_, _++_}
+use Prim.Native.Nat.{ℕ}
 use native.Mathlib.Omega.{arith}
 use native.Mathlib.Nat.{sub-zero}
 use lib.ListN.{length, take, length-append}
-use Rattle.frame.specs.Bytes.{littleEndian, valuesBytes}
+use Rattle.bytes.specs.Words.{littleEndian, valuesBytes}
+use Rattle.bytes.specs.Areas.{put}
+use Rattle.frame.specs.Lengths.{commandStart}
 use Rattle.frame.specs.Command.{commandBytes}
-use Rattle.frame.proofs.Numbers.{length-littleEndian}
-use Rattle.frame.proofs.Areas.{then-put}
-use Rattle.frame.proofs.ValueLists.{length-first}
+use Rattle.bytes.proofs.Numbers.{length-littleEndian}
+use Rattle.bytes.proofs.Areas.{then-put}
+use Rattle.bytes.proofs.ValueLists.{length-first}
 use borrow.Author.Needs.{needs}
 use Rattle.frame.proofs.command.put_command.Statement.{statement}
 use Rattle.frame.proofs.command.put_command.Tie as tie
@@ -54,13 +57,14 @@ returns c =
     let values = s .args .t3 in
     let l = s .args .area .now in
     let size = length-first p values (omega (arith, four s, s .pre .0)) in
+    let dated = c .before .before .before .before .before .before .before .before .put-u32 in
     let head = length-littleEndian 4 (s .args .period) in (
       simp (length-append, head, size) (omega arith),
       then-put l _ _ 0 8 ((5 ∷ p ∷ 0 ∷ 0 ∷ []) ++ littleEndian 4 (s .args .period)) (valuesBytes (take p values))
           (then-put l _ _ 0 4 (5 ∷ p ∷ 0 ∷ 0 ∷ []) (littleEndian 4 (s .args .period))
           (c .before .before .before .before .before .before .before .before .before .before .before .before .put-4 .ensures)
-          (c .before .before .before .before .before .before .before .before .put-u32 .ensures) refl (omega (arith, head, s .pre)))
-          (rw sub-zero at (c .before .before .put-values .ensures))
+          (dated .ensures) refl (omega (arith, head, s .pre)))
+          (c .before .before .put-values .ensures ∙ ap (λ (k : ℕ). put (dated .last .0) commandStart (valuesBytes (take k values))) (sub-zero p))
           (simp head)
           (omega (arith, size, s .pre)),
     )

@@ -1,10 +1,10 @@
 -- `frame::header::put_header` meets its contract: the four bytes and the four numbers are put one behind the other. Assumes nothing.
-use Rattle.frame.specs.Bytes.{put}
+use Rattle.bytes.specs.Areas.{put}
 use Prim.Native.Nat.{ℕ}
 use mathlib.Core.List.{[], _∷_}
-use Rattle.frame.proofs.Areas.{then-put}
+use Rattle.bytes.proofs.Areas.{then-put}
 use Rattle.frame.specs.Format.{header}
-use Rattle.frame.specs.Bytes.{littleEndian}
+use Rattle.bytes.specs.Words.{littleEndian}
 use mathlib.Core.Path.{refl, _∙_, ap}
 use native.Mathlib.Omega.{arith}
 use borrow.Author.Needs.{needs}
@@ -35,18 +35,19 @@ same-length c = search needs
 returns : tie.Need-returns
 unfolding header littleEndian
 returns c =
-    let l = c .before .before .before .before .before .before .before .before .before .before .before .before .before .before .before .before .before .before .before .before .before .before .args .area .now in
-    let f = c .before .before .before .before .before .before .before .before .before .before .before .before .before .before .before .before .before .before .before .before .before .before .args .frame in
-    let count = c .before .before .before .before .before .before .before .before .before .before .before .before .before .before .before .before .before .before .before .part-count in
-    let four = ap (λ (p : ℕ). put l 0 (f .kind ∷ f .sender ∷ p ∷ 0 ∷ [])) (count .ensures) in
+    let period = c .before .before .before .before .before .before .before .before .before .before .before .before .before .before in
+    let four = period .before .before .before .before in
+    let count = four .before .part-count in
+    let s = four .before .before .before .before in
+    let l = s .args .area .now in
+    let f = s .args .frame in
+    let bytes = ap (λ (p : ℕ). put l 0 (f .kind ∷ f .sender ∷ p ∷ 0 ∷ [])) (count .ensures) in
     then-put l _ _ 0 16 _ _
     (then-put l _ _ 0 12 _ _
     (then-put l _ _ 0 8 _ _
     (then-put l _ _ 0 4 _ _
-    (_∙_ {b = put l 0 (f .kind ∷ f .sender ∷ count .result ∷ 0 ∷ [])}
-    (c .before .before .before .before .before .before .before .before .before .before .before .before .before .before .before .before .before .before .put-4 .ensures) four)
-    (c .before .before .before .before .before .before .before .before .before .before .before .before .before .before .put-u32 .ensures) refl
-    (omega arith))
+    (_∙_ {b = put l 0 (f .kind ∷ f .sender ∷ count .result ∷ 0 ∷ [])} (four .put-4 .ensures) bytes)
+    (period .put-u32 .ensures) refl (omega arith))
     (c .before .before .before .before .before .before .before .before .before .before .put-u322 .ensures) refl (omega arith))
     (c .before .before .before .before .before .before .put-u323 .ensures) refl (omega arith))
     (c .before .before .put-u324 .ensures) refl (omega arith)

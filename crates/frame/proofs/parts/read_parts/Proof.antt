@@ -1,13 +1,15 @@
 -- `frame::parts::read_parts` meets its contract: the offsets and lengths that the frame gives are those of the two parts, since its pairs
 -- were looked at. Assumes nothing.
 use mathlib.Core.Path.{_≡_, _∙_}
-use Prim.Native.Nat.{_+_, _*_, _-_}
+use Prim.Native.Nat.{ℕ, _+_, _-_}
 use native.Mathlib.Omega.{arith}
 use lib.ListN.{length}
-use Rattle.frame.specs.Bytes.{part}
-use Rattle.frame.specs.Reading.{statePart, readingsPart}
-use Rattle.frame.proofs.Numbers.{length-part}
-use Rattle.frame.proofs.Areas.{part-of}
+use Rattle.bytes.specs.Words.{part}
+use Rattle.estimate.specs.Lengths.{stateLength, readingsLength}
+use Rattle.estimate.specs.Reading.{statePart, readingsPart, estimateAt}
+use Rattle.frame.specs.Lengths.{partsStart}
+use Rattle.bytes.proofs.Numbers.{length-part}
+use Rattle.bytes.proofs.Areas.{part-of}
 use Rattle.frame.proofs.Conditions.{Pairs, pairs-facts}
 use borrow.Author.Needs.{needs}
 use Rattle.frame.proofs.parts.read_parts.Statement.{statement}
@@ -17,24 +19,30 @@ facts : (s : tie.Start) → Pairs (s .args .n) (s .args .m) (s .args .bytes .now
 facts s = pairs-facts _ _ _ (s .pre .3)
 
 -- the parts that the pairs give are the state's and the readings'
-state-part : (c : tie.After-u16-at4)
-    → part (c .before .before .before .before .before .args .bytes .now) (c .before .before .before .u16-at .result)
-    (c .before .before .before .u16-at .result + c .before .before .u16-at2 .result - c .before .before .before .u16-at .result)
-    ≡ statePart (c .before .before .before .before .before .args .n) (c .before .before .before .before .before .args .bytes .now)
-state-part c =
-    let f = facts (c .before .before .before .before .before) in
-    part-of _ _ _ _ _ (c .before .before .before .u16-at .ensures ∙ f .at20) (c .before .before .u16-at2 .ensures ∙ f .at22)
+module _ (c : tie.After-u16-at4) where
+  abbrev given : tie.Start
+  given = c .before .before .before .before .before
 
-readings-part : (c : tie.After-u16-at4)
-    → part (c .before .before .before .before .before .args .bytes .now) (c .before .u16-at3 .result) (c .before .u16-at3 .result + c .u16-at4 .result - c .before .u16-at3 .result)
-    ≡ readingsPart (c .before .before .before .before .before .args .n) (c .before .before .before .before .before .args .m)
-    (c .before .before .before .before .before .args .bytes .now)
-readings-part c =
-    let f = facts (c .before .before .before .before .before) in part-of _ _ _ _ _ (c .before .u16-at3 .ensures ∙ f .at24) (c .u16-at4 .ensures ∙ f .at26)
+  abbrev first : ℕ
+  first = c .before .before .before .u16-at .result
 
-readings-length : (s : tie.Start) → length (readingsPart (s .args .n) (s .args .m) (s .args .bytes .now)) ≡ 1 + 4 * s .args .m
+  abbrev second : ℕ
+  second = c .before .u16-at3 .result
+
+  state-part : part (given .args .bytes .now) first (first + c .before .before .u16-at2 .result - first)
+      ≡ statePart (given .args .n) (given .args .bytes .now) partsStart
+  state-part =
+      part-of _ _ _ _ _ (c .before .before .before .u16-at .ensures ∙ facts given .state-offset)
+      (c .before .before .u16-at2 .ensures ∙ facts given .state-length)
+
+  readings-part : part (given .args .bytes .now) second (second + c .u16-at4 .result - second)
+      ≡ readingsPart (given .args .n) (given .args .m) (given .args .bytes .now) partsStart
+  readings-part =
+      part-of _ _ _ _ _ (c .before .u16-at3 .ensures ∙ facts given .readings-offset) (c .u16-at4 .ensures ∙ facts given .readings-length)
+
+readings-length : (s : tie.Start) → length (readingsPart (s .args .n) (s .args .m) (s .args .bytes .now) partsStart) ≡ readingsLength (s .args .m)
 readings-length s =
-    length-part (s .args .bytes .now) (28 + 4 * s .args .n) (1 + 4 * s .args .m) (omega (arith, s .pre .2))
+    length-part (s .args .bytes .now) (partsStart + stateLength (s .args .n)) (readingsLength (s .args .m)) (omega (arith, s .pre .2))
 
 u16-at-requires : tie.Need-u16-at-requires
 u16-at-requires c κs = search needs
@@ -43,7 +51,9 @@ u16-at-requires-2 : tie.Need-u16-at-requires-2
 u16-at-requires-2 c κs = search needs
 
 add-state-end : tie.Need-add-state-end
-add-state-end c = let f = facts (c .before .before .before) in omega (arith, c .before .u16-at .ensures ∙ f .at20, c .u16-at2 .ensures ∙ f .at22, c .before .before .before .pre)
+add-state-end c =
+    let f = facts (c .before .before .before) in
+    omega (arith, c .before .u16-at .ensures ∙ f .state-offset, c .u16-at2 .ensures ∙ f .state-length, c .before .before .before .pre)
 
 u16-at-requires-3 : tie.Need-u16-at-requires-3
 u16-at-requires-3 c κs = search needs
@@ -54,7 +64,7 @@ u16-at-requires-4 c κs = search needs
 add-readings-end : tie.Need-add-readings-end
 add-readings-end c =
     let f = facts (c .before .before .before .before .before) in
-    omega (arith, c .before .u16-at3 .ensures ∙ f .at24, c .u16-at4 .ensures ∙ f .at26, c .before .before .before .before .before .pre)
+    omega (arith, c .before .u16-at3 .ensures ∙ f .readings-offset, c .u16-at4 .ensures ∙ f .readings-length, c .before .before .before .before .before .pre)
 
 sub-read-state : tie.Need-sub-read-state
 sub-read-state c = search needs
@@ -67,15 +77,15 @@ part-read-state-end c =
     let f = facts (c .before .before .before .before .before) in
     omega (
       arith,
-      c .before .before .before .u16-at .ensures ∙ f .at20,
-      c .before .before .u16-at2 .ensures ∙ f .at22,
+      c .before .before .before .u16-at .ensures ∙ f .state-offset,
+      c .before .before .u16-at2 .ensures ∙ f .state-length,
       c .before .before .before .before .before .pre,
     )
 
 read-state-requires : tie.Need-read-state-requires
 read-state-requires c κs =
     let s = c .before .before .before .before .before .before in
-    (s .pre .0, rw (state-part (c .before)) (length-part (s .args .bytes .now) 28 (4 * s .args .n) (omega (arith, s .pre .2))))
+    (s .pre .0, rw (state-part (c .before)) (length-part (s .args .bytes .now) partsStart (stateLength (s .args .n)) (omega (arith, s .pre .2))))
 
 sub-part : tie.Need-sub-part
 sub-part c = search needs
@@ -88,8 +98,8 @@ part-part-end c =
     let f = facts (c .before .before .before .before .before .before .before) in
     omega (
       arith,
-      c .before .before .before .u16-at3 .ensures ∙ f .at24,
-      c .before .before .u16-at4 .ensures ∙ f .at26,
+      c .before .before .before .u16-at3 .ensures ∙ f .readings-offset,
+      c .before .before .u16-at4 .ensures ∙ f .readings-length,
       c .before .before .before .before .before .before .before .pre,
     )
 
@@ -103,9 +113,12 @@ read-readings-requires c κs =
     (u .before .before .before .before .before .pre .1, rw (readings-part u) (readings-length (u .before .before .before .before .before)))
 
 returns : tie.Need-returns
+unfolding estimateAt
 returns c =
     let u = c .before .before .before .before .before in
-    (rw (state-part u) at (c .before .before .before .read-state .ensures), rw (readings-part u), rw (readings-part u) at (c .read-readings .ensures))
+    let state = rw (state-part u) at (c .before .before .before .read-state .ensures) in
+    let readings = rw (readings-part u) at (c .read-readings .ensures) in
+    (rw (readings-part u), λ i. record { state = state i; readings = readings i })
 
 pub read-parts-spec : {M : Type 1} → statement M
 read-parts-spec =

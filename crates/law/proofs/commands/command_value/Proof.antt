@@ -5,7 +5,7 @@ use mir.Syntax.{w32, w64}
 use mir.Val.{SFits}
 use mir.Facts.{toZ-ofZ}
 use borrow.Author.Needs.{needs}
-use Rattle.readings.specs.Places.{entry}
+use Rattle.lists.specs.Places.{entry}
 use Rattle.law.specs.Fixed.{divided, limited}
 use Rattle.law.specs.Law.{command}
 use Rattle.law.proofs.commands.command_value.Statement.{statement}

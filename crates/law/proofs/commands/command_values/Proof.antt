@@ -8,8 +8,8 @@ use lib.IntN.{ℤ, pos}
 use mir.Syntax.{w32}
 use mir.Val.{toZ, ofZ}
 use mir.Facts.{toZ-ofZ}
-use Rattle.readings.specs.Places.{entry, filled}
-use Rattle.readings.proofs.Places.{filled-none, filled-more}
+use Rattle.lists.specs.Places.{entry, filled}
+use Rattle.lists.proofs.Places.{filled-none, filled-more}
 use Rattle.law.specs.Settings.{cell}
 use Rattle.law.specs.Law.{command}
 use Rattle.law.proofs.Sums.{row-holds}
@@ -56,8 +56,8 @@ returns c =
     let s = c .before .before in
     let l = c .before .loop in
     let done : l .j ≡ s .args .p = omega arith in
-    l .inv .1
-    ∙ ap (λ (i : ℕ). filled (pos 0) 4 i (command (cell (s .args .k .now) 6) (entry (s .args .low .now)) (entry (s .args .high .now)) (s .args .n) (s .args .x .now))) done
+    let f = command (cell (s .args .k .now) 6) (entry (s .args .low .now)) (entry (s .args .high .now)) (s .args .n) (s .args .x .now) in
+    l .inv .1 ∙ ap (λ (i : ℕ). filled (pos 0) 4 i f) done
 
 pub command-values-spec : {M : Type 1} → statement M
 command-values-spec =

@@ -5,6 +5,7 @@ use lib.Signed.{ltZ}
 use mir.Syntax.{w32}
 use mir.Val.{SFits}
 use mir.Facts.{toZ-ofZ}
+use Rattle.lists.specs.Choice.{pick}
 use Rattle.law.specs.Fixed.{limited}
 use Rattle.law.proofs.Integers.{wide, widened, between-fits}
 use Rattle.law.proofs.fixed.limit.Statement.{statement}
@@ -26,7 +27,7 @@ cast-if1 : tie.Need-cast-if1
 cast-if1 c = widened (c .fits .low)
 
 returns : tie.Need-returns
-unfolding limited
+unfolding limited pick
 returns c = let f = c .before .fits in
     simp (toZ-ofZ, f .low, simp (toZ-ofZ, f .x, f .low, wide (f .low)) at (c .if1 .taken))
 
@@ -34,7 +35,7 @@ cast-if2 : tie.Need-cast-if2
 cast-if2 c = widened (c .before .fits .high)
 
 returns-2 : tie.Need-returns-2
-unfolding limited
+unfolding limited pick
 returns-2 c = let f = c .before .before .fits in
     simp (toZ-ofZ, f .high, not-below (c .before), simp (toZ-ofZ, f .x, f .high, wide (f .high)) at (c .if2 .taken))
 
@@ -42,7 +43,7 @@ cast-result : tie.Need-cast-result
 cast-result c = simp (toZ-ofZ, c .before .before .fits .x) (inside c)
 
 returns-3 : tie.Need-returns-3
-unfolding limited
+unfolding limited pick
 returns-3 c = let f = c .before .before .fits in
     simp (toZ-ofZ, f .x, inside c, not-below (c .before), not-above c)
 

@@ -10,11 +10,12 @@ use lib.IntN.{ℤ, pos, natAbs, _+ℤ_, _*ℤ_}
 use mir.Syntax.{w32, w64}
 use mir.Val.{SFits, toZ, ofZ}
 use mir.Facts.{toZ-ofZ}
-use Rattle.readings.specs.Places.{entry}
+use Rattle.lists.specs.Places.{entry}
+use Rattle.lists.proofs.Below.{all-at}
 use Rattle.law.specs.Fixed.{sum, largestProduct}
 use Rattle.law.specs.Settings.{inRange}
 use Rattle.law.proofs.Integers.{term-size}
-use Rattle.law.proofs.Sums.{sum-none, sum-more, sum-more-size, every-holds}
+use Rattle.law.proofs.Sums.{sum-none, sum-more, sum-more-size}
 use Rattle.law.proofs.fixed.sum_of_products.Statement.{statement}
 use Rattle.law.proofs.fixed.sum_of_products.Tie as tie
 
@@ -29,7 +30,7 @@ module _ (s : tie.Start) where
   term i = coefficient i *ℤ value i
 
   inside : (i : ℕ) → i < s .args .n → inRange (coefficient i) ≡ true
-  inside i l = every-holds (s .args .n) i (λ k. inRange (coefficient k)) l (s .pre .3)
+  inside i l = all-at (λ k. inRange (coefficient k)) (s .args .n) i (s .pre .3) l
 
   -- a total of k products
   record Total (k : ℕ) (total : ℤ) : Type 0 where

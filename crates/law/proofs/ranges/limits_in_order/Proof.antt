@@ -1,6 +1,6 @@
 -- `law::ranges::limits_in_order` meets its contract. The loop's invariant: the first j limits are in order. Assumes nothing.
 use mathlib.Core.Path.{_≡_, sym, ap, _∙_}
-use mathlib.Core.Bool.{Bool, true, false}
+use mathlib.Core.Bool.{Bool, true}
 use mathlib.Core.List.{List}
 use Prim.Native.Nat.{ℕ, _-_, _≤_}
 use native.Mathlib.Omega.{arith}
@@ -10,9 +10,10 @@ use mir.Syntax.{w32}
 use mir.Val.{SFits}
 use mir.Facts.{toZ-ofZ}
 use borrow.Author.Tests.{not-true, not-false}
-use Rattle.readings.specs.Places.{entry}
-use Rattle.law.specs.Settings.{every, limitsInOrder}
-use Rattle.law.proofs.Sums.{every-none, every-with, every-without}
+use Rattle.lists.specs.Below.{allBelow}
+use Rattle.lists.specs.Places.{entry}
+use Rattle.lists.proofs.Below.{all-none, all-more, one-fails}
+use Rattle.law.specs.Settings.{limitsInOrder}
 use Rattle.law.proofs.ranges.limits_in_order.Statement.{statement}
 use Rattle.law.proofs.ranges.limits_in_order.Tie as tie
 
@@ -20,14 +21,14 @@ abbrev test : List ℤ → List ℤ → ℕ → Bool
 test low high j = leZ (entry low j) (entry high j)
 
 abbrev Inv-loop : tie.InvT-loop
-Inv-loop low high p j₀ j = (j ≤ p) × (every j (test low high) ≡ true)
+Inv-loop low high p j₀ j = (j ≤ p) × (allBelow j (test low high) ≡ true)
 
 abbrev μ-loop : tie.MeasureT-loop
 μ-loop low high p j₀ j = p - j
 
 -- what the test of one pair says
-here : (c : tie.After-in-order Inv-loop μ-loop) →
-    c .in-order .result ≡ test (c .before .before .before .before .before .args .low .now) (c .before .before .before .before .before .args .high .now) (c .before .before .before .before .loop .j)
+here : (c : tie.After-in-order Inv-loop μ-loop) → let s = c .before .before .before .before .before .args in
+    c .in-order .result ≡ test (s .low .now) (s .high .now) (c .before .before .before .before .loop .j)
 here c =
     let s = c .before .before .before .before .before .args in
     let j = c .before .before .before .before .loop .j in
@@ -36,7 +37,7 @@ here c =
     simp (toZ-ofZ, low, high) at (c .in-order .ensures)
 
 loop-holds : tie.Need-loop-holds Inv-loop μ-loop
-loop-holds c = (omega arith, every-none _)
+loop-holds c = (omega arith, all-none _)
 
 mul-in-order : tie.Need-mul-in-order Inv-loop μ-loop
 mul-in-order c = omega arith
@@ -58,7 +59,8 @@ unfolding limitsInOrder
 returns c =
     let l = c .before .before .before .before .before .loop in
     let s = c .before .before .before .before .before .before .args in
-    sym (every-without (s .p) (l .j) (test (s .low .now) (s .high .now)) (c .before .before .before .before .loop-test .taken) (sym (here (c .before)) ∙ not-true _ (c .if1 .taken)))
+    let fails = sym (here (c .before)) ∙ not-true _ (c .if1 .taken) in
+    sym (one-fails (test (s .low .now) (s .high .now)) (s .p) (l .j) (c .before .before .before .before .loop-test .taken) fails)
 
 add-j : tie.Need-add-j Inv-loop μ-loop
 add-j c = omega arith
@@ -69,7 +71,7 @@ loop-less c = omega arith
 loop-again : tie.Need-loop-again Inv-loop μ-loop
 loop-again c =
     let l = c .before .before .before .before .before .loop in
-    (omega arith, every-with (l .j) _ (l .inv .1) (sym (here (c .before)) ∙ not-false _ (c .if1 .left)))
+    (omega arith, all-more _ (l .j) (l .inv .1) (sym (here (c .before)) ∙ not-false _ (c .if1 .left)))
 
 returns-2 : tie.Need-returns-2 Inv-loop μ-loop
 unfolding limitsInOrder
@@ -77,7 +79,7 @@ returns-2 c =
     let s = c .before .before in
     let l = c .before .loop in
     let done : l .j ≡ s .args .p = omega arith in
-    sym (ap (λ (k : ℕ). every k (test (s .args .low .now) (s .args .high .now))) (sym done) ∙ l .inv .1)
+    sym (ap (λ (k : ℕ). allBelow k (test (s .args .low .now) (s .args .high .now))) (sym done) ∙ l .inv .1)
 
 pub limits-in-order-spec : {M : Type 1} → statement M
 limits-in-order-spec =

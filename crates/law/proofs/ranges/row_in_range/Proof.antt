@@ -1,6 +1,6 @@
 -- `law::ranges::row_in_range` meets its contract. The loop's invariant: the first j are in range. Assumes nothing.
 use mathlib.Core.Path.{_≡_, sym, ap, _∙_}
-use mathlib.Core.Bool.{Bool, true, false, _&&_}
+use mathlib.Core.Bool.{Bool, true}
 use mathlib.Core.List.{List}
 use Prim.Native.Nat.{ℕ, _+_, _-_, _≤_}
 use native.Mathlib.Omega.{arith}
@@ -9,9 +9,10 @@ use mir.Syntax.{w32}
 use mir.Val.{SFits}
 use mir.Facts.{toZ-ofZ}
 use borrow.Author.Tests.{not-true, not-false}
-use Rattle.readings.specs.Places.{entry}
-use Rattle.law.specs.Settings.{every, inRange}
-use Rattle.law.proofs.Sums.{every-none, every-with, every-without}
+use Rattle.lists.specs.Below.{allBelow}
+use Rattle.lists.specs.Places.{entry}
+use Rattle.lists.proofs.Below.{all-none, all-more, one-fails}
+use Rattle.law.specs.Settings.{inRange}
 use Rattle.law.proofs.ranges.row_in_range.Statement.{statement}
 use Rattle.law.proofs.ranges.row_in_range.Tie as tie
 
@@ -19,21 +20,21 @@ abbrev test : List ℤ → ℕ → ℕ → Bool
 test table at j = inRange (entry table (at + j))
 
 abbrev Inv-loop : tie.InvT-loop
-Inv-loop table at n j₀ j = (j ≤ n) × (every j (test table at) ≡ true)
+Inv-loop table at n j₀ j = (j ≤ n) × (allBelow j (test table at) ≡ true)
 
 abbrev μ-loop : tie.MeasureT-loop
 μ-loop table at n j₀ j = n - j
 
 -- what the test of one coefficient says
-here : (c : tie.After-in-range Inv-loop μ-loop) →
-    c .in-range .result ≡ test (c .before .before .before .before .args .table .now) (c .before .before .before .before .args .at) (c .before .before .before .loop .j)
+here : (c : tie.After-in-range Inv-loop μ-loop) → let s = c .before .before .before .before .args in
+    c .in-range .result ≡ test (s .table .now) (s .at) (c .before .before .before .loop .j)
 here c =
     let s = c .before .before .before .before .args in
     let fits : SFits w32 (entry (s .table .now) (s .at + c .before .before .before .loop .j)) = record { sfits = c .before .in-range-arg .given } in
     simp (toZ-ofZ, fits) at (c .in-range .ensures)
 
 loop-holds : tie.Need-loop-holds Inv-loop μ-loop
-loop-holds c = (omega arith, every-none _)
+loop-holds c = (omega arith, all-none _)
 
 add-in-range : tie.Need-add-in-range Inv-loop μ-loop
 add-in-range c = omega arith
@@ -51,7 +52,8 @@ returns : tie.Need-returns Inv-loop μ-loop
 returns c =
     let l = c .before .before .before .before .loop in
     let s = c .before .before .before .before .before .args in
-    sym (every-without (s .n) (l .j) (test (s .table .now) (s .at)) (c .before .before .before .loop-test .taken) (sym (here (c .before)) ∙ not-true _ (c .if1 .taken)))
+    let fails = sym (here (c .before)) ∙ not-true _ (c .if1 .taken) in
+    sym (one-fails (test (s .table .now) (s .at)) (s .n) (l .j) (c .before .before .before .loop-test .taken) fails)
 
 add-j : tie.Need-add-j Inv-loop μ-loop
 add-j c = omega arith
@@ -62,14 +64,14 @@ loop-less c = omega arith
 loop-again : tie.Need-loop-again Inv-loop μ-loop
 loop-again c =
     let l = c .before .before .before .before .loop in
-    (omega arith, every-with (l .j) _ (l .inv .1) (sym (here (c .before)) ∙ not-false _ (c .if1 .left)))
+    (omega arith, all-more _ (l .j) (l .inv .1) (sym (here (c .before)) ∙ not-false _ (c .if1 .left)))
 
 returns-2 : tie.Need-returns-2 Inv-loop μ-loop
 returns-2 c =
     let s = c .before .before in
     let l = c .before .loop in
     let done : l .j ≡ s .args .n = omega arith in
-    sym (ap (λ (k : ℕ). every k (test (s .args .table .now) (s .args .at))) (sym done) ∙ l .inv .1)
+    sym (ap (λ (k : ℕ). allBelow k (test (s .args .table .now) (s .args .at))) (sym done) ∙ l .inv .1)
 
 pub row-in-range-spec : {M : Type 1} → statement M
 row-in-range-spec =

@@ -8,7 +8,8 @@ use mir.Val.{SFits}
 use mir.Facts.{toZ-ofZ}
 use borrow.Author.Needs.{needs}
 use borrow.Author.Tests.{not-true, not-false}
-use Rattle.readings.specs.Places.{entry}
+use Rattle.lists.specs.Choice.{pick}
+use Rattle.lists.specs.Places.{entry}
 use Rattle.readings.specs.Readings.{present}
 use Rattle.law.specs.Fixed.{divided, clamp, largestProduct}
 use Rattle.law.specs.Law.{e}
@@ -33,7 +34,9 @@ module _ (c : tie.After-divide) where
       simp (toZ-ofZ, f) at (c .divide .ensures)
 
   predicted-size : natAbs (c .divide .result) ≤ 6 * largestProduct
-  predicted-size = rw predicted (omega (arith, divided-size (c .before .sum-of-products .result), c .before .sum-of-products .ensures .1, c .before .before .before .before .before .before .pre .0))
+  predicted-size =
+      let few = c .before .before .before .before .before .before .pre .0 in
+      rw predicted (omega (arith, divided-size (c .before .sum-of-products .result), c .before .sum-of-products .ensures .1, few))
 
   fits : SFits w64 (y -ℤ c .divide .result)
   fits = difference-fits y (c .divide .result) y-fits predicted-size
@@ -42,7 +45,7 @@ array-read-if1 : tie.Need-array-read-if1
 array-read-if1 c = search needs
 
 returns : tie.Need-returns
-unfolding e
+unfolding e pick
 returns c = let s = c .before .before in simp (not-true (present (s .args .readings) (s .args .j)) (c .if1 .taken))
 
 mul-value : tie.Need-mul-value
@@ -70,7 +73,7 @@ clamp-i32-requires : tie.Need-clamp-i32-requires
 clamp-i32-requires c κs = search needs
 
 returns-2 : tie.Need-returns-2
-unfolding e
+unfolding e pick
 returns-2 c =
     let d = c .before in
     let s = d .before .before .before .before .before .before in

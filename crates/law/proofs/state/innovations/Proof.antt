@@ -8,8 +8,8 @@ use lib.IntN.{ℤ, pos}
 use mir.Syntax.{w32}
 use mir.Val.{toZ, ofZ}
 use mir.Facts.{toZ-ofZ}
-use Rattle.readings.specs.Places.{filled}
-use Rattle.readings.proofs.Places.{filled-none, filled-more}
+use Rattle.lists.specs.Places.{filled}
+use Rattle.lists.proofs.Places.{filled-none, filled-more}
 use Rattle.law.specs.Settings.{cell}
 use Rattle.law.specs.Law.{e}
 use Rattle.law.proofs.Sums.{row-holds}

@@ -8,8 +8,8 @@ use lib.IntN.{ℤ, pos}
 use mir.Syntax.{w32}
 use mir.Val.{toZ, ofZ}
 use mir.Facts.{toZ-ofZ}
-use Rattle.readings.specs.Places.{entry, filled}
-use Rattle.readings.proofs.Places.{filled-none, filled-more}
+use Rattle.lists.specs.Places.{entry, filled}
+use Rattle.lists.proofs.Places.{filled-none, filled-more}
 use Rattle.law.specs.Settings.{cell}
 use Rattle.law.specs.Law.{next}
 use Rattle.law.proofs.Sums.{row-holds}
@@ -58,8 +58,8 @@ returns c =
     let s = c .before .before in
     let l = c .before .loop in
     let done : l .i ≡ s .args .n = omega arith in
-    l .inv .1
-    ∙ ap (λ (k : ℕ). filled (pos 0) 6 k (next (cell (s .args .a .now) 6) (cell (s .args .l .now) 4) (s .args .n) (s .args .m) (s .args .x .now) (entry (s .args .e .now)))) done
+    let f = next (cell (s .args .a .now) 6) (cell (s .args .l .now) 4) (s .args .n) (s .args .m) (s .args .x .now) (entry (s .args .e .now)) in
+    l .inv .1 ∙ ap (λ (k : ℕ). filled (pos 0) 6 k f) done
 
 pub next-state-spec : {M : Type 1} → statement M
 next-state-spec =

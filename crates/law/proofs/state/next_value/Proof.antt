@@ -23,7 +23,14 @@ module _ (c : tie.After-sum-of-products2) where
   both-fit : SFits w64 (c .before .sum-of-products .result +ℤ c .sum-of-products2 .result)
   both-fit =
       small-fits w64 (c .before .sum-of-products .result +ℤ c .sum-of-products2 .result)
-      (omega (arith, sum-size (c .before .sum-of-products .result) (c .sum-of-products2 .result), c .before .sum-of-products .ensures .1, c .sum-of-products2 .ensures .1, c .before .before .pre .0, c .before .before .pre .1))
+      (omega (
+        arith,
+        sum-size (c .before .sum-of-products .result) (c .sum-of-products2 .result),
+        c .before .sum-of-products .ensures .1,
+        c .sum-of-products2 .ensures .1,
+        c .before .before .pre .0,
+        c .before .before .pre .1,
+      ))
 
 mul-sum-of-products : tie.Need-mul-sum-of-products
 mul-sum-of-products c = search needs

@@ -2,11 +2,12 @@
 use mathlib.Core.Path.{_≡_, sym, _∙_}
 use mathlib.Core.Bool.{true}
 use native.Mathlib.Omega.{arith}
-use lib.ListN.{length}
 use borrow.Author.Needs.{needs}
 use borrow.Author.Tests.{not-true, not-false}
+use Rattle.lists.specs.Choice.{pick}
+use Rattle.lists.specs.Refusals.{firstOf}
 use Rattle.law.specs.declared.Settings.{Settings}
-use Rattle.law.specs.Settings.{settingsOf, A, L, C, K, sizesInRange, coefficientsInRange, refusal}
+use Rattle.law.specs.Settings.{settingsOf, A, L, C, K, sizesInRange, coefficientsInRange, refusals, refusal}
 use Rattle.law.proofs.Accepted.{Sizes, sizes}
 use Rattle.law.proofs.tables.check.Statement.{statement}
 use Rattle.law.proofs.tables.check.Tie as tie
@@ -37,7 +38,7 @@ sizes-in-range-requires : tie.Need-sizes-in-range-requires
 sizes-in-range-requires c κs = search needs
 
 returns : tie.Need-returns
-unfolding refusal
+unfolding refusal refusals firstOf pick
 returns c = simp (sym (c .before .sizes-in-range .ensures) ∙ not-true _ (c .if1 .taken))
 
 coefficients-in-range-requires : tie.Need-coefficients-in-range-requires
@@ -46,7 +47,7 @@ coefficients-in-range-requires c κs =
     (k .n6, k .m4, k .p4, search needs, search needs, search needs, search needs)
 
 returns-2 : tie.Need-returns-2
-unfolding refusal
+unfolding refusal refusals firstOf pick
 returns-2 c =
     let b = c .before .before .before .before .before .before in
     simp (sizes-passed b, sym (c .before .coefficients-in-range .ensures) ∙ not-true _ (c .if2 .taken))
@@ -57,13 +58,13 @@ limits-in-order-requires c κs =
     (omega (arith, k .p4), omega (arith, k .p4))
 
 returns-3 : tie.Need-returns-3
-unfolding refusal
+unfolding refusal refusals firstOf pick
 returns-3 c =
     let b = c .before .before .before .before in
     simp (sizes-passed (first b), coefficients-passed b, sym (c .before .limits-in-order .ensures) ∙ not-true _ (c .if3 .taken))
 
 returns-4 : tie.Need-returns-4
-unfolding refusal
+unfolding refusal refusals firstOf pick
 returns-4 c =
     let b = c .before .before .before .before in
     simp (sizes-passed (first b), coefficients-passed b, sym (c .before .limits-in-order .ensures) ∙ not-false _ (c .if3 .left))

@@ -1,35 +1,26 @@
--- `events::row_in` meets its contract. The loop's invariant: the first j readings stand in their places, and the others are absent. The measure
--- is the number of readings left. Assumes nothing.
-use mathlib.Core.Path.{_≡_, sym, ap, ap₂, _∙_}
-use mathlib.Core.Bool.{Bool, false}
-use mathlib.Core.List.{List}
-use Prim.Native.Nat.{_+_, _-_, _≤_, _<_}
-use lib.IntN.{ℤ, pos}
-use mir.Syntax.{w32}
-use mir.ValLaws.{toZ-ofZ}
-use borrow.Author.Needs.{needs}
+-- `events::row_in` meets its contract. The loop's invariant: the first j readings stand in their places, and whether their fields were readings.
+-- The measure is the number of readings left. Assumes nothing.
+use mathlib.Core.Path.{_≡_, ap, _∙_}
+use Prim.Native.Nat.{_-_, _≤_}
 use native.Mathlib.Omega.{arith}
-use Rattle.readings.specs.Places.{filled}
-use Rattle.readings.proofs.Places.{filled-none, filled-more, filled-most}
-use Rattle.line.specs.Numbers.{numberOf, isWhole, valueIn}
-use Rattle.line.specs.Fields.{field}
-use Rattle.line.specs.Events.{rowOf}
+use borrow.Author.Needs.{needs}
+use Rattle.line.specs.Events.{allReadings, rowOf, readWith}
+use Rattle.line.specs.declared.events.Row.{Row}
+use Rattle.line.proofs.RowLaws.{row-none, readings-none, row-more, readings-more}
 use Rattle.line.proofs.events.row_in.Statement.{statement}
 use Rattle.line.proofs.events.row_in.Tie as tie
 
 abbrev Inv-loop : tie.InvT-loop
-Inv-loop m line present₀ values₀ n j₀ present values j =
-    (j ≤ n) × (present ≡ filled false 4 j (λ i. isWhole (numberOf (field (i + 2) line))))
-    × (values ≡ filled (pos 0) 4 j (λ i. valueIn (numberOf (field (i + 2) line))))
+Inv-loop m line row₀ j₀ row j = (j ≤ m) × (row .readings ≡ rowOf j line) × (row .all ≡ allReadings j line)
 
 abbrev μ-loop : tie.MeasureT-loop
-μ-loop m line present₀ values₀ n j₀ present values j = n - j
+μ-loop m line row₀ j₀ row j = m - j
 
-in-use-requires : tie.Need-in-use-requires Inv-loop μ-loop
-in-use-requires c κs = search needs
+no-readings-requires : tie.Need-no-readings-requires Inv-loop μ-loop
+no-readings-requires c κs = search needs
 
 loop-holds : tie.Need-loop-holds Inv-loop μ-loop
-loop-holds c = (omega arith, sym (filled-none false 4 _), sym (filled-none (pos 0) 4 _))
+loop-holds c = (omega arith, c .no-readings .ensures ∙ row-none _, readings-none _)
 
 add-field : tie.Need-add-field Inv-loop μ-loop
 add-field c = search needs
@@ -37,20 +28,8 @@ add-field c = search needs
 field-requires : tie.Need-field-requires Inv-loop μ-loop
 field-requires c κs = search needs
 
-is-number-requires : tie.Need-is-number-requires Inv-loop μ-loop
-is-number-requires c κs = search needs
-
-value-in-requires : tie.Need-value-in-requires Inv-loop μ-loop
-value-in-requires c κs = search needs
-
-array-write-present : tie.Need-array-write-present Inv-loop μ-loop
-array-write-present c = search needs
-
-mul-values : tie.Need-mul-values Inv-loop μ-loop
-mul-values c = search needs
-
-array-set-from-values : tie.Need-array-set-from-values Inv-loop μ-loop
-array-set-from-values c = search needs
+with-reading-requires : tie.Need-with-reading-requires Inv-loop μ-loop
+with-reading-requires c κs = search needs
 
 add-j : tie.Need-add-j Inv-loop μ-loop
 add-j c = search needs
@@ -60,27 +39,20 @@ loop-less c = search needs
 
 loop-again : tie.Need-loop-again Inv-loop μ-loop
 loop-again c =
-    let l = c .before .before .before .before .loop in
-    let line = c .before .before .before .before .before .before .before .args .line .now in
-    let h : l .j < 4 = omega (arith, c .before .before .before .before .before .in-use .ensures) in
-    let m = c .before .is-number .ensures ∙ ap (λ w. isWhole (numberOf w)) (c .before .before .field .ensures) in
-    let v = c .value-in .ensures ∙ ap (λ w. valueIn (numberOf w)) (c .before .before .field .ensures) in
-    let back = toZ-ofZ w32 (c .value-in .result) (record { sfits = c .value-in .ok }) in (
+    let l = c .before .before .before .loop in
+    let line = c .before .before .before .before .before .before .args .line .now in
+    let e = c .with-reading .ensures ∙ ap (readWith (l .row) (l .j)) (c .before .field .ensures) in (
       omega arith,
-      rw (l .inv .1, m) (filled-more false 4 (l .j) (λ i. isWhole (numberOf (field (i + 2) line))) h),
-      rw (l .inv .2, back, v) (filled-more (pos 0) 4 (l .j) (λ i. valueIn (numberOf (field (i + 2) line))) h),
+      ap (λ (r : Row). r .readings) e ∙ row-more line (l .row) (l .j) (l .inv .1),
+      ap (λ (r : Row). r .all) e ∙ readings-more line (l .row)
+          (l .j) (l .inv .2),
     )
 
 returns : tie.Need-returns Inv-loop μ-loop
-unfolding rowOf
 returns c =
     let l = c .before .loop in
-    let line = c .before .before .before .before .args .line .now in
-    let u = c .before .before .in-use .ensures in
-    let e : l .j ≡ c .before .before .in-use .result = omega arith in
-    let p = (rw e at (l .inv .1)) ∙ (filled-most false 4 (c .before .before .before .before .args .m) _ (λ i. isWhole (numberOf (field (i + 2) line))) (u .1) (u .2)) in
-    let q = (rw e at (l .inv .2)) ∙ (filled-most (pos 0) 4 (c .before .before .before .before .args .m) _ (λ i. valueIn (numberOf (field (i + 2) line))) (u .1) (u .2)) in
-    ap₂ (λ (p : List Bool) (q : List ℤ). record { present = p; values = q }) p q
+    let e : l .j ≡ c .before .before .before .before .args .m = omega arith in
+    (rw e at (l .inv .1), rw e at (l .inv .2))
 
 pub row-in-spec : {M : Type 1} → statement M
 row-in-spec =
@@ -88,15 +60,11 @@ row-in-spec =
     (tie.spec
     Inv-loop
     μ-loop
-    in-use-requires
+    no-readings-requires
     loop-holds
     add-field
     field-requires
-    is-number-requires
-    value-in-requires
-    array-write-present
-    mul-values
-    array-set-from-values
+    with-reading-requires
     add-j
     loop-less
     loop-again

@@ -2,6 +2,7 @@
 use borrow.Author.Tests.{eq-eqb, ne-eqb}
 use native.Mathlib.Numerals.{add-one}
 use borrow.Author.Needs.{needs}
+use Rattle.lists.specs.Choice.{pick}
 use Rattle.line.specs.Fields.{oneMore}
 use Rattle.line.proofs.fields.one_more.Statement.{statement}
 use Rattle.line.proofs.fields.one_more.Tie as tie
@@ -10,11 +11,11 @@ add-result : tie.Need-add-result
 add-result c = search needs
 
 returns : tie.Need-returns
-unfolding oneMore
+unfolding oneMore pick
 returns c = simp (eq-eqb _ _ (c .if1 .taken), add-one)
 
 returns-2 : tie.Need-returns-2
-unfolding oneMore
+unfolding oneMore pick
 returns-2 c = simp (ne-eqb _ _ (c .if1 .left))
 
 pub one-more-spec : {M : Type 1} → statement M

@@ -4,7 +4,7 @@ use Prim.Native.Nat.{_+_, _*_, _-_}
 use borrow.Author.Needs.{needs}
 use native.Mathlib.Omega.{arith}
 use Rattle.line.specs.Frames.{frameOf}
-use Rattle.line.proofs.PlaceLaws.{none-beyond, bytes-behind}
+use Rattle.lists.proofs.Parts.{none-beyond, bytes-behind}
 use Rattle.line.proofs.frames.frame_of.Statement.{statement}
 use Rattle.line.proofs.frames.frame_of.Tie as tie
 

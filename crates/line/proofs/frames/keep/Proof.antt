@@ -1,8 +1,9 @@
 -- `frames::keep` meets its contract. Assumes nothing.
 use mathlib.Core.Path.{sym, _∙_}
 use borrow.Author.Needs.{needs}
+use Rattle.lists.specs.Choice.{pick}
 use Rattle.line.specs.Frames.{kept}
-use Rattle.line.proofs.PlaceLaws.{fits}
+use Rattle.line.proofs.FrameLaws.{fits}
 use Rattle.line.proofs.frames.keep.Statement.{statement}
 use Rattle.line.proofs.frames.keep.Tie as tie
 
@@ -18,13 +19,13 @@ same-length : tie.Need-same-length
 same-length c = search needs
 
 returns : tie.Need-returns
-unfolding kept
+unfolding kept pick
 returns c =
     let t = c .before .before .before .before in
     rw (sym (t .before .fits2 .ensures) ∙ t .if1 .taken) (c .before .before .put-frame .ensures)
 
 returns-2 : tie.Need-returns-2
-unfolding kept
+unfolding kept pick
 returns-2 c = rw (sym (c .before .fits2 .ensures) ∙ c .if1 .left)
 
 pub keep-spec : {M : Type 1} → statement M

@@ -8,7 +8,7 @@ use lib.Seq.{paste, paste-zero, paste-suc}
 use borrow.Author.Needs.{needs}
 use native.Mathlib.Omega.{arith}
 use Rattle.line.specs.Frames.{keptFrame}
-use Rattle.line.proofs.PlaceLaws.{pasted}
+use Rattle.bytes.proofs.Areas.{pasted}
 use Rattle.line.proofs.frames.put_frame.Statement.{statement}
 use Rattle.line.proofs.frames.put_frame.Tie as tie
 

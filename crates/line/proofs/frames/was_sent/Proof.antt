@@ -4,7 +4,7 @@ use borrow.Author.Tests.{le-ltb, lt-ltb}
 use borrow.Author.Needs.{needs}
 use native.Mathlib.Omega.{arith}
 use Rattle.line.specs.Frames.{wasSent}
-use Rattle.line.proofs.PlaceLaws.{getD-beyond}
+use Rattle.lists.proofs.Parts.{getD-beyond}
 use Rattle.line.proofs.frames.was_sent.Statement.{statement}
 use Rattle.line.proofs.frames.was_sent.Tie as tie
 

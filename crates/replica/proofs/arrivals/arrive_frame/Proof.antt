@@ -1,45 +1,42 @@
 -- `arrive_frame` meets its contract. Assumes nothing.
-use mathlib.Core.Path.{_≡_}
+use mathlib.Core.Path.{_≡_, sym, ap, ap₂, _∙_}
 use mathlib.Core.Bool.{Bool, false}
 use Prim.Native.Nat.{_<_}
 use Rattle.scram.specs.Quorum.{coordinator}
-use Rattle.scram.specs.Events.{badSender}
+use Rattle.scram.specs.Events.{badSender, badPlace, badBase, arrive}
 use Rattle.replica.specs.Frames.{kindOf}
-use mathlib.Core.Path.{ap₂}
-use Rattle.scram.specs.Events.{badPlace, badBase}
-use mathlib.Core.Path.{sym, ap, _∙_}
-use Rattle.scram.specs.Events.{arrive}
-use Rattle.replica.proofs.Accepted.{accepted, sender-place}
-use Rattle.replica.proofs.Given.{gives-refused, gives-ignored, gives-true, gives-false}
+use Rattle.replica.proofs.Accepted.{sender-place}
+use Rattle.replica.proofs.Given.{says-refused, says-ignored, says-true, says-false}
 use borrow.Author.Needs.{needs}
 use Rattle.replica.proofs.arrivals.arrive_frame.Statement.{statement}
 use Rattle.replica.proofs.arrivals.arrive_frame.Tie as tie
 
 -- the tests' results, and what they say where they did not hold
+
 abbrev sender-test : (c : tie.After-bad-sender) → Bool
-sender-test c = let s = c .before .before .before .before .args in badSender (s .replica .settings .boxes) (s .replica .settings .own) (s .f .sender)
+sender-test c = let s = c .before .before .before .args in badSender (s .member .boxes) (s .member .own) (s .f .sender)
 
 abbrev place-test : (c : tie.After-bad-place) → Bool
 place-test c =
-    let s = c .before .before .before .before .before .before .before .args in
-    badPlace (kindOf (s .f .kind)) (coordinator (s .replica .settings .boxes) (s .f .view)) (s .replica .settings .own) (s .f .sender)
+    let s = c .before .before .before .before .before .before .args in
+    badPlace (kindOf (s .f .kind)) (coordinator (s .member .boxes) (s .f .view)) (s .member .own) (s .f .sender)
 
 place : (c : tie.After-bad-place) → c .bad-place .result ≡ place-test c
 place c =
-    let s = c .before .before .before .before .before .before .before .args in
+    let s = c .before .before .before .before .before .before .args in
     c .bad-place .ensures
-    ∙ ap₂ (λ k v. badPlace k v (s .replica .settings .own) (s .f .sender)) (c .before .before .before .before .kind-of .ensures)
-    (c .before .coordinator .ensures)
+    ∙ ap₂ (λ k v. badPlace k v (s .member .own) (s .f .sender)) (c .before .before .before .before .kind-of .ensures) (c .before .coordinator .ensures)
 
 abbrev base-test : (c : tie.After-bad-base) → Bool
 base-test c =
-    let f = c .before .before .before .before .before .before .before .before .before .args .f in
+    let f = c .before .before .before .before .before .before .before .before .args .f in
     badBase (kindOf (f .kind)) (f .period) (f .view) (f .«base_view») (f .«base_period»)
 
 base : (c : tie.After-bad-base) → c .bad-base .result ≡ base-test c
 base c =
-    let f = c .before .before .before .before .before .before .before .before .before .args .f in
-    c .bad-base .ensures ∙ ap (λ k. badBase k (f .period) (f .view) (f .«base_view») (f .«base_period»)) (c .before .before .before .before .before .before .kind-of .ensures)
+    let f = c .before .before .before .before .before .before .before .before .args .f in
+    c .bad-base .ensures ∙ ap (λ k. badBase k (f .period) (f .view) (f .«base_view») (f .«base_period»))
+    (c .before .before .before .before .before .before .kind-of .ensures)
 
 sender-fits : (c : tie.Else1) → sender-test (c .before) ≡ false
 sender-fits c = sym (c .before .bad-sender .ensures) ∙ c .if1 .left
@@ -50,8 +47,8 @@ place-fits c = sym (place (c .before)) ∙ c .if2 .left
 base-fits : (c : tie.Else3) → base-test (c .before) ≡ false
 base-fits c = sym (base (c .before)) ∙ c .if3 .left
 
-sender-low : (c : tie.Else1) → c .before .before .before .before .before .args .f .sender < 10
-sender-low c = sender-place _ _ _ (accepted _ (c .before .before .before .before .before .pre .0) .group .N9) (sender-fits c)
+sender-low : (c : tie.Else1) → c .before .before .before .before .args .f .sender < 10
+sender-low c = sender-place _ _ _ (c .before .before .before .before .pre .0 .boxes) (sender-fits c)
 
 kind-of-requires : tie.Need-kind-of-requires
 kind-of-requires c κs = search needs
@@ -59,12 +56,12 @@ kind-of-requires c κs = search needs
 bad-sender-requires : tie.Need-bad-sender-requires
 bad-sender-requires c κs = search needs
 
-refused-requires : tie.Need-refused-requires
-refused-requires c κs = search needs
+refused-rule-requires : tie.Need-refused-rule-requires
+refused-rule-requires c κs = search needs
 
 returns : tie.Need-returns
 unfolding arrive
-returns c = gives-true _ _ (sym (c .before .before .bad-sender .ensures) ∙ c .before .if1 .taken) (rw (c .refused .ensures) (gives-refused _ _ _ 9))
+returns c = λ law. says-true _ _ (sym (c .before .before .bad-sender .ensures) ∙ c .before .if1 .taken) (rw (c .refused-rule .ensures) (says-refused _ _ _ _ 9))
 
 coordinator-requires : tie.Need-coordinator-requires
 coordinator-requires c κs = search needs
@@ -72,29 +69,29 @@ coordinator-requires c κs = search needs
 bad-place-requires : tie.Need-bad-place-requires
 bad-place-requires c κs = search needs
 
-refused-requires-2 : tie.Need-refused-requires-2
-refused-requires-2 c κs = search needs
+refused-rule-requires-2 : tie.Need-refused-rule-requires-2
+refused-rule-requires-2 c κs = search needs
 
 returns-2 : tie.Need-returns-2
 unfolding arrive
 returns-2 c =
-    gives-false _ _ (sender-fits (c .before .before .before .before))
-    (gives-true _ _ (sym (place (c .before .before)) ∙ c .before .if2 .taken)
-    (rw (c .refused2 .ensures) (gives-refused _ _ _ 10)))
+    λ law.
+    says-false _ _ (sender-fits (c .before .before .before .before))
+    (says-true _ _ (sym (place (c .before .before)) ∙ c .before .if2 .taken) (rw (c .refused-rule2 .ensures) (says-refused _ _ _ _ 10)))
 
 bad-base-requires : tie.Need-bad-base-requires
 bad-base-requires c κs = search needs
 
-refused-requires-3 : tie.Need-refused-requires-3
-refused-requires-3 c κs = search needs
+refused-rule-requires-3 : tie.Need-refused-rule-requires-3
+refused-rule-requires-3 c κs = search needs
 
 returns-3 : tie.Need-returns-3
 unfolding arrive
 returns-3 c =
-    gives-false _ _ (sender-fits (c .before .before .before .before .before .before))
-    (gives-false _ _ (place-fits (c .before .before .before))
-    (gives-true _ _ (sym (base (c .before .before)) ∙ c .before .if3 .taken)
-    (rw (c .refused3 .ensures) (gives-refused _ _ _ 11))))
+    λ law.
+    says-false _ _ (sender-fits (c .before .before .before .before .before .before))
+    (says-false _ _ (place-fits (c .before .before .before))
+    (says-true _ _ (sym (base (c .before .before)) ∙ c .before .if3 .taken) (rw (c .refused-rule3 .ensures) (says-refused _ _ _ _ 11))))
 
 ignores-requires : tie.Need-ignores-requires
 ignores-requires c κs = (sender-low (c .before .before .before .before .before), c .before .before .before .before .before .before .before .kind-of .ensures)
@@ -105,33 +102,28 @@ ignored-requires c κs = search needs
 returns-4 : tie.Need-returns-4
 unfolding arrive
 returns-4 c =
-    gives-false _ _ (sender-fits (c .before .before .before .before .before .before .before .before))
-    (gives-false _ _ (place-fits (c .before .before .before .before .before))
-    (gives-false _ _ (base-fits (c .before .before .before))
-    (gives-true _ _ (sym (c .before .before .ignores .ensures) ∙ c .before .if4 .taken)
-    (rw (c .ignored .ensures) (gives-ignored _ _ _)))))
+    λ law.
+    says-false _ _ (sender-fits (c .before .before .before .before .before .before .before .before))
+    (says-false _ _ (place-fits (c .before .before .before .before .before))
+    (says-false _ _ (base-fits (c .before .before .before))
+    (says-true _ _ (sym (c .before .before .ignores .ensures) ∙ c .before .if4 .taken) (rw (c .ignored .ensures) (says-ignored _ _ _ _)))))
 
 receive-requires : tie.Need-receive-requires
-receive-requires c κs =
-    let s = c .before .before .before .before .before .before .before .before .before .before .before .before .before .before in
-    (s .pre .0, s .pre .1, s .pre .2, sender-low (c .before .before .before .before .before .before .before .before .before))
+receive-requires c κs = let s = c .before .before .before .before .before .before .before .before .before .before .before .before in (s .pre .0, s .pre .1, sender-low (c .before .before .before .before .before .before .before .before))
 
 same-length : tie.Need-same-length
 same-length c = search needs
 
-same-length-2 : tie.Need-same-length-2
-same-length-2 c = search needs
-
 returns-5 : tie.Need-returns-5
 unfolding arrive
 returns-5 c =
-    gives-false _ _ (sender-fits (c .before .before .before .before .before .before .before .before .before .before .before .before .before .before))
-    (gives-false _ _ (place-fits (c .before .before .before .before .before .before .before .before .before .before .before))
-    (gives-false _ _ (base-fits (c .before .before .before .before .before .before .before .before .before))
-    (gives-false _ _
-    (sym (c .before .before .before .before .before .before .before .before .ignores .ensures)
-    ∙ c .before .before .before .before .before .before .before .if4 .left)
-    (rw (c .before .before .before .before .before .before .before .before .before .before .before .before .before .before .before .before .kind-of .ensures) at (c .before .before .before .before .receive .ensures)))))
+    λ law.
+    says-false _ _ (sender-fits (c .before .before .before .before .before .before .before .before .before .before .before))
+    (says-false _ _ (place-fits (c .before .before .before .before .before .before .before .before))
+    (says-false _ _ (base-fits (c .before .before .before .before .before .before))
+    (says-false _ _ (sym (c .before .before .before .before .before .ignores .ensures) ∙ c .before .before .before .before .if4 .left)
+    (rw (c .before .before .before .before .before .before .before .before .before .before .before .before .before .kind-of .ensures) at
+    (c .before .before .receive .ensures law)))))
 
 pub arrive-frame-spec : {M : Type 1} → statement M
 arrive-frame-spec =
@@ -139,19 +131,18 @@ arrive-frame-spec =
     (tie.spec
     kind-of-requires
     bad-sender-requires
-    refused-requires
+    refused-rule-requires
     returns
     coordinator-requires
     bad-place-requires
-    refused-requires-2
+    refused-rule-requires-2
     returns-2
     bad-base-requires
-    refused-requires-3
+    refused-rule-requires-3
     returns-3
     ignores-requires
     ignored-requires
     returns-4
     receive-requires
     same-length
-    same-length-2
     returns-5)

@@ -1,7 +1,8 @@
 -- `decide` meets its contract. Assumes nothing.
-use Rattle.scram.specs.declared.Kind.the-variants.{Decide}
-use Rattle.replica.proofs.Accepted.{accepted}
-use Rattle.replica.proofs.Written.{frame-sizes, kind-ok}
+use mathlib.Core.Path.{refl}
+use Rattle.lists.specs.Choice.{pick}
+use Rattle.scram.specs.declared.Kind.the-variants as Kind
+use Rattle.replica.proofs.Written.{kind-ok}
 use borrow.Author.Needs.{needs}
 use Rattle.replica.proofs.arrivals.decide.Statement.{statement}
 use Rattle.replica.proofs.arrivals.decide.Tie as tie
@@ -10,25 +11,21 @@ hearing-requires : tie.Need-hearing-requires
 hearing-requires c κs = search needs
 
 send-requires : tie.Need-send-requires
-send-requires c κs =
-    let s = c .before .before .before .before .before .before .before .before in
-    (frame-sizes _ (accepted _ (s .pre .0) .law), kind-ok Decide, s .pre .1)
-
-issue-requires : tie.Need-issue-requires
-issue-requires c κs =
-    let s = c .before .before .before .before .before .before .before .before .before .before .before .before in
-    (accepted _ (s .pre .0) .law, s .pre .2)
+send-requires c κs = let s = c .before .before .before .before .before in (s .pre .0 .sizes, kind-ok Kind.Decide, s .pre .1)
 
 same-length : tie.Need-same-length
 same-length c = search needs
 
-same-length-2 : tie.Need-same-length-2
-same-length-2 c = search needs
-
 returns : tie.Need-returns
-returns c = search needs
+unfolding pick
+returns c =
+    λ law. record {
+      answer = refl;
+      held = c .before .before .before .before .before .hearing .ensures;
+      frame-length = c .before .before .send .ensures .0;
+      frame-bytes = c .before .before .send .ensures .1;
+      command = rw (c .before .before .before .before .before .hearing .ensures) refl;
+    }
 
 pub decide-spec : {M : Type 1} → statement M
-decide-spec =
-    tie.close
-    (tie.spec hearing-requires send-requires issue-requires same-length same-length-2 returns)
+decide-spec = tie.close (tie.spec hearing-requires send-requires same-length returns)

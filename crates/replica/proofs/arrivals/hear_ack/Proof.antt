@@ -1,7 +1,7 @@
 -- `hear_ack` meets its contract. Assumes nothing.
 use mathlib.Core.Path.{sym, _∙_}
 use Rattle.scram.specs.Events.{hearAck}
-use Rattle.replica.proofs.Given.{gives-done, gives-true, gives-false}
+use Rattle.replica.proofs.Given.{says-done, says-true, says-false}
 use borrow.Author.Needs.{needs}
 use Rattle.replica.proofs.arrivals.hear_ack.Statement.{statement}
 use Rattle.replica.proofs.arrivals.hear_ack.Tie as tie
@@ -15,24 +15,16 @@ decide-requires c κs = search needs
 same-length : tie.Need-same-length
 same-length c = search needs
 
-same-length-2 : tie.Need-same-length-2
-same-length-2 c = search needs
-
 returns : tie.Need-returns
 unfolding hearAck
-returns c =
-    gives-true _ _
-    (sym (c .before .before .before .before .before .before .before .before .majority-heard .ensures)
-    ∙ c .before .before .before .before .before .before .before .if1 .taken) (c .before .before .before .before .decide .ensures)
+returns c = λ law. says-true _ _ (sym (c .before .before .before .before .before .majority-heard .ensures) ∙ c .before .before .before .before .if1 .taken) (c .before .before .decide .ensures law)
 
 hearing-requires : tie.Need-hearing-requires
 hearing-requires c κs = search needs
 
 returns-2 : tie.Need-returns-2
 unfolding hearAck
-returns-2 c =
-    gives-false _ _ (sym (c .before .before .before .majority-heard .ensures) ∙ c .before .before .if1 .left)
-    (gives-done (c .hearing .ensures))
+returns-2 c = λ law. says-false _ _ (sym (c .before .before .before .majority-heard .ensures) ∙ c .before .before .if1 .left) (says-done (c .hearing .ensures))
 
 pub hear-ack-spec : {M : Type 1} → statement M
 hear-ack-spec =
@@ -41,7 +33,6 @@ hear-ack-spec =
     majority-heard-requires
     decide-requires
     same-length
-    same-length-2
     returns
     hearing-requires
     returns-2)

@@ -1,9 +1,8 @@
 -- `hear_estimate` meets its contract. Assumes nothing.
-use Rattle.scram.specs.Events.{hearing}
-use Rattle.replica.specs.Held.{heldBest, held, replicaOf}
 use mathlib.Core.Path.{sym, ap, _∙_}
-use Rattle.scram.specs.Events.{hearEstimate}
-use Rattle.replica.proofs.Given.{gives-done, gives-true, gives-false}
+use Rattle.scram.specs.Events.{hearing, hearEstimate}
+use Rattle.replica.specs.Held.{bestIn, heldIn, heldOf}
+use Rattle.replica.proofs.Given.{says-done, says-true, says-false}
 use borrow.Author.Needs.{needs}
 use Rattle.replica.proofs.arrivals.hear_estimate.Statement.{statement}
 use Rattle.replica.proofs.arrivals.hear_estimate.Tie as tie
@@ -23,10 +22,9 @@ same-length c = search needs
 returns : tie.Need-returns
 unfolding hearEstimate
 returns c =
-    gives-true _ _
-    (sym (c .before .before .before .before .before .before .before .majority-heard .ensures)
-    ∙ c .before .before .before .before .before .before .if1 .taken)
-    (rw (c .before .before .before .before .before .before .before .before .better .ensures) at (c .before .before .propose .ensures))
+    λ law.
+    says-true _ _ (sym (c .before .before .before .before .before .before .majority-heard .ensures) ∙ c .before .before .before .before .before .if1 .taken)
+    (rw (c .before .before .before .before .before .before .before .before .better .ensures) at (c .before .before .propose .ensures law))
 
 hearing-requires : tie.Need-hearing-requires
 hearing-requires c κs = search needs
@@ -34,13 +32,13 @@ hearing-requires c κs = search needs
 returns-2 : tie.Need-returns-2
 unfolding hearEstimate
 returns-2 c =
-    let a = c .before .before .before .before .before .before .args in
-    let r = a .replica in
-    gives-false _ _ (sym (c .before .before .majority-heard .ensures) ∙ c .before .if1 .left)
-    (gives-done
+    λ law.
+    let a = c .before .before .before .before .before .before .before .args in
+    says-false _ _ (sym (c .before .before .majority-heard .ensures) ∙ c .before .if1 .left)
+    (says-done
     (c .hearing .ensures
-    ∙ ap (λ x. replicaOf (r .settings) (hearing (held r) (a .estimate .«box_number») (heldBest x) (r .decided)))
-    (c .before .before .before .better .ensures)))
+    ∙ ap (λ x. heldOf (hearing (heldIn (a .held)) (a .given .«box_number») (bestIn x) (a .held .decided)))
+    (c .before .before .before .before .better .ensures)))
 
 pub hear-estimate-spec : {M : Type 1} → statement M
 hear-estimate-spec =

@@ -35,7 +35,7 @@ returns-3 c =
       sym (c .before .before .before .before .stale .ensures) ∙ c .before .before .before .if2 .left,
     )
     (c .unwanted .ensures
-    ∙ ap (λ k. unwanted k (s .args .replica .view) (s .args .replica .«view_change») (among (s .args .replica .heard) (s .args .f .sender))
+    ∙ ap (λ k. unwanted k (s .args .held .view) (s .args .held .«view_change») (among (s .args .held .heard) (s .args .f .sender))
     (s .args .f .view)) (s .pre .1))
 
 pub ignores-spec : {M : Type 1} → statement M

@@ -1,6 +1,6 @@
 -- `kind_of` meets its contract. Assumes nothing.
 use borrow.Author.Tests.{eq-eqb, ne-eqb}
-use Rattle.scram.specs.Events.{pick}
+use Rattle.lists.specs.Choice.{pick}
 use Rattle.replica.specs.Frames.{kindOf}
 use Rattle.replica.proofs.arrivals.kind_of.Statement.{statement}
 use Rattle.replica.proofs.arrivals.kind_of.Tie as tie

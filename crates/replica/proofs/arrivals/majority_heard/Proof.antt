@@ -1,8 +1,7 @@
 -- `majority_heard` meets its contract. Assumes nothing.
-use mathlib.Core.Path.{ap₂}
+use mathlib.Core.Path.{ap, ap₂, _∙_}
 use lib.Dec.{leb}
 use Rattle.scram.specs.Quorum.{among, count}
-use mathlib.Core.Path.{ap, _∙_}
 use borrow.Author.Needs.{needs}
 use Rattle.replica.proofs.arrivals.majority_heard.Statement.{statement}
 use Rattle.replica.proofs.arrivals.majority_heard.Tie as tie
@@ -18,8 +17,8 @@ count-heard-requires c κs = search needs
 
 returns : tie.Need-returns
 returns c =
-    let r = c .before .before .before .before .args .replica in
-    ap₂ leb (c .before .majority .ensures) (c .count-heard .ensures ∙ ap (λ h. count (among h) (r .settings .boxes)) (c .before .before .with-box .ensures))
+    let boxes = c .before .before .before .args .boxes in
+    ap₂ leb (c .before .majority .ensures) (c .count-heard .ensures ∙ ap (λ h. count (among h) boxes) (c .before .before .with-box .ensures))
 
 pub majority-heard-spec : {M : Type 1} → statement M
 majority-heard-spec =

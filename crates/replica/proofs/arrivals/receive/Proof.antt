@@ -1,6 +1,6 @@
 -- `receive` meets its contract. Assumes nothing.
 use Rattle.scram.specs.Events.{receive}
-use Rattle.replica.proofs.Given.{gives-frame, gives-command}
+use Rattle.replica.proofs.Given.{says-nothing}
 use borrow.Author.Needs.{needs}
 use Rattle.replica.proofs.arrivals.receive.Statement.{statement}
 use Rattle.replica.proofs.arrivals.receive.Tie as tie
@@ -33,29 +33,23 @@ same-length : tie.Need-same-length
 same-length c = search needs
 
 returns : tie.Need-returns
-returns c = rw (c .before .before .before .before .enum-told .given .1) (gives-frame _ (c .before .before .receive-propose .ensures))
+returns c = λ law. rw (c .before .before .before .before .enum-told .given .1) (c .before .before .receive-propose .ensures law)
 
 same-length-2 : tie.Need-same-length-2
 same-length-2 c = search needs
 
+returns-2 : tie.Need-returns-2
+unfolding receive
+returns-2 c = λ law. rw (c .before .before .before .before .enum-told2 .given .1) (c .before .before .hear-ack .ensures law)
+
+returns-3 : tie.Need-returns-3
+returns-3 c = λ law. rw (c .before .enum-told3 .given .1) (says-nothing _ (c .receive-decide .ensures law _))
+
 same-length-3 : tie.Need-same-length-3
 same-length-3 c = search needs
 
-returns-2 : tie.Need-returns-2
-unfolding receive
-returns-2 c = rw (c .before .before .before .before .before .before .before .enum-told2 .given .1) (c .before .before .before .before .hear-ack .ensures)
-
-same-length-4 : tie.Need-same-length-4
-same-length-4 c = search needs
-
-returns-3 : tie.Need-returns-3
-returns-3 c = rw (c .before .before .before .before .enum-told3 .given .1) (gives-command _ (c .before .before .receive-decide .ensures))
-
-same-length-5 : tie.Need-same-length-5
-same-length-5 c = search needs
-
 returns-4 : tie.Need-returns-4
-returns-4 c = rw (c .before .before .before .before .enum-told4 .given .1) (gives-frame _ (c .before .before .receive-estimate .ensures))
+returns-4 c = λ law. rw (c .before .before .before .before .enum-told4 .given .1) (c .before .before .receive-estimate .ensures law)
 
 pub receive-spec : {M : Type 1} → statement M
 receive-spec =
@@ -72,9 +66,7 @@ receive-spec =
     same-length
     returns
     same-length-2
-    same-length-3
     returns-2
-    same-length-4
     returns-3
-    same-length-5
+    same-length-3
     returns-4)

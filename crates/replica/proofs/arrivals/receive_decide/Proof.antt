@@ -1,7 +1,7 @@
 -- `receive_decide` meets its contract. Assumes nothing.
 use mathlib.Core.Path.{refl}
+use Rattle.lists.specs.Choice.{pick}
 use Rattle.scram.specs.Events.{receive}
-use Rattle.replica.proofs.Accepted.{accepted}
 use borrow.Author.Needs.{needs}
 use Rattle.replica.proofs.arrivals.receive_decide.Statement.{statement}
 use Rattle.replica.proofs.arrivals.receive_decide.Tie as tie
@@ -9,23 +9,16 @@ use Rattle.replica.proofs.arrivals.receive_decide.Tie as tie
 adopting-requires : tie.Need-adopting-requires
 adopting-requires c κs = search needs
 
-issue-requires : tie.Need-issue-requires
-issue-requires c κs = let s = c .before .before .before .before .before .before in (accepted _ (s .pre .0) .law, s .pre .1)
-
-same-length : tie.Need-same-length
-same-length c = search needs
-
 returns : tie.Need-returns
-unfolding receive
+unfolding receive pick
 returns c =
-    record {
+    λ law member. record {
       answer = refl;
-      replica = c .before .before .before .before .before .adopting .ensures;
+      held = c .adopting .ensures law;
       frame-length = refl;
-      command-length = c .before .before .issue .ensures .0;
       frame-bytes = refl;
-      command-bytes = c .before .before .issue .ensures .1;
+      command = rw (c .adopting .ensures law) refl;
     }
 
 pub receive-decide-spec : {M : Type 1} → statement M
-receive-decide-spec = tie.close (tie.spec adopting-requires issue-requires same-length returns)
+receive-decide-spec = tie.close (tie.spec adopting-requires returns)

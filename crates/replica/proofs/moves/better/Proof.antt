@@ -6,9 +6,9 @@ use lib.IntN.{ℤ}
 use Rattle.readings.specs.declared.Readings.{Readings}
 use borrow.Author.Tests.{not-false}
 use Rattle.scram.specs.Quorum.{beats}
-use Rattle.scram.specs.Replica as Scram
-use Rattle.replica.specs.Held.{heldBest, bestOf}
-use Rattle.scram.specs.Events.{pick}
+use Rattle.scram.specs.Held as Scram
+use Rattle.replica.specs.Held.{bestIn, bestOf}
+use Rattle.lists.specs.Choice.{pick}
 use Rattle.scram.specs.Events.{better}
 use borrow.Author.Needs.{needs}
 use Rattle.replica.proofs.moves.better.Statement.{statement}
@@ -40,13 +40,13 @@ beats-requires c κs = search needs
 returns-2 : tie.Need-returns-2
 returns-2 c =
     ap bestOf
-    (sym (takes (heldBest (c .before .before .before .before .args .b)) (heldBest (c .before .before .before .before .args .c))
+    (sym (takes (bestIn (c .before .before .before .before .args .b)) (bestIn (c .before .before .before .before .args .c))
     (sym (c .before .beats .ensures) ∙ c .if2 .taken)))
 
 returns-3 : tie.Need-returns-3
 returns-3 c =
     ap bestOf
-    (sym (keeps (heldBest (c .before .before .before .before .args .b)) (heldBest (c .before .before .before .before .args .c))
+    (sym (keeps (bestIn (c .before .before .before .before .args .b)) (bestIn (c .before .before .before .before .args .c))
     (not-false _ (c .before .before .if1 .left)) (sym (c .before .beats .ensures) ∙ c .if2 .left)))
 
 pub better-spec : {M : Type 1} → statement M

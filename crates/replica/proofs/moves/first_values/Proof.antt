@@ -8,8 +8,8 @@ use lib.IntN.{ℤ, pos}
 use mir.Syntax.{w32}
 use mir.Val.{SFits}
 use mir.Facts.{toZ-ofZ}
-use Rattle.readings.specs.Places.{entry, filled}
-use Rattle.readings.proofs.Places.{filled-none, filled-more}
+use Rattle.lists.specs.Places.{entry, filled}
+use Rattle.lists.proofs.Places.{filled-none, filled-more}
 use Rattle.replica.proofs.moves.first_values.Statement.{statement}
 use Rattle.replica.proofs.moves.first_values.Tie as tie
 

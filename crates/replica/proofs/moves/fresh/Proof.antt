@@ -13,7 +13,9 @@ no-best-requires : tie.Need-no-best-requires
 no-best-requires c κs = search needs
 
 returns : tie.Need-returns
-returns c = rw (c .before .before .first-values .ensures, c .before .no-readings .ensures, c .no-best .ensures)
+returns c =
+    let law = c .before .before .before .before .args .settings .law in
+    rw (c .before .before .first-values .ensures, c .before .no-readings .ensures, c .no-best .ensures law)
 
 pub fresh-spec : {M : Type 1} → statement M
 fresh-spec =

@@ -3,11 +3,11 @@ use borrow.Author.Needs.{needs}
 use Rattle.replica.proofs.moves.no_best.Statement.{statement}
 use Rattle.replica.proofs.moves.no_best.Tie as tie
 
-no-readings-requires : tie.Need-no-readings-requires
-no-readings-requires c κs = search needs
+no-estimate-requires : tie.Need-no-estimate-requires
+no-estimate-requires c κs = search needs
 
 returns : tie.Need-returns
-returns c = rw (c .no-readings .ensures)
+returns c = λ law. rw (c .no-estimate .ensures)
 
 pub no-best-spec : {M : Type 1} → statement M
-no-best-spec = tie.close (tie.spec no-readings-requires returns)
+no-best-spec = tie.close (tie.spec no-estimate-requires returns)

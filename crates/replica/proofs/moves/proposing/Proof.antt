@@ -10,7 +10,7 @@ only-requires : tie.Need-only-requires
 only-requires c κs = search needs
 
 returns : tie.Need-returns
-returns c = rw (c .before .no-best .ensures, c .only .ensures)
+returns c = λ law. rw (c .before .no-best .ensures law, c .only .ensures)
 
 pub proposing-spec : {M : Type 1} → statement M
 proposing-spec = tie.close (tie.spec no-best-requires only-requires returns)

@@ -16,7 +16,9 @@ add-next : tie.Need-add-next
 add-next c = search needs
 
 returns : tie.Need-returns
-returns c = rw (c .before .before .before .before .next-state .ensures, c .before .before .before .normalise .ensures, c .before .before .no-best .ensures)
+returns c =
+    λ law e.
+    rw (c .before .before .before .before .next-state .ensures law e, c .before .before .before .normalise .ensures, c .before .before .no-best .ensures law)
 
 pub ticked-spec : {M : Type 1} → statement M
 ticked-spec =

@@ -1,7 +1,7 @@
 -- `step_refusal` meets its contract. Assumes nothing.
 use mathlib.Core.Path.{sym, _∙_}
 use borrow.Author.Tests.{eq-eqb, ne-eqb}
-use Rattle.scram.specs.Events.{pick}
+use Rattle.lists.specs.Choice.{pick}
 use Rattle.replica.specs.Calls.{stepRefusal}
 use borrow.Author.Needs.{needs}
 use Rattle.replica.proofs.refusals.step_refusal.Statement.{statement}
@@ -12,7 +12,7 @@ settings-refusal-requires c κs = search needs
 
 returns : tie.Need-returns
 unfolding stepRefusal pick
-returns c = let e = c .before .settings-refusal .ensures in e ∙ simp (ne-eqb _ 0 (λ z. c .if1 .taken (e ∙ z)))
+returns c = λ s e. let q = c .before .settings-refusal .ensures s e in q ∙ simp (ne-eqb _ 0 (λ z. c .if1 .taken (q ∙ z)))
 
 short-area-requires : tie.Need-short-area-requires
 short-area-requires c κs = search needs
@@ -20,14 +20,16 @@ short-area-requires c κs = search needs
 returns-2 : tie.Need-returns-2
 unfolding stepRefusal pick
 returns-2 c =
-    let e = c .before .before .before .settings-refusal .ensures in
-    simp (eq-eqb _ 0 (sym e ∙ c .before .before .if1 .left), sym (c .before .short-area .ensures) ∙ c .if2 .taken)
+    λ s e.
+    let q = c .before .before .before .settings-refusal .ensures s e in
+    simp (eq-eqb _ 0 (sym q ∙ c .before .before .if1 .left), sym (c .before .short-area .ensures) ∙ c .if2 .taken)
 
 returns-3 : tie.Need-returns-3
 unfolding stepRefusal pick
 returns-3 c =
-    let e = c .before .before .before .settings-refusal .ensures in
-    simp (eq-eqb _ 0 (sym e ∙ c .before .before .if1 .left), sym (c .before .short-area .ensures) ∙ c .if2 .left)
+    λ s e.
+    let q = c .before .before .before .settings-refusal .ensures s e in
+    simp (eq-eqb _ 0 (sym q ∙ c .before .before .if1 .left), sym (c .before .short-area .ensures) ∙ c .if2 .left)
 
 pub step-refusal-spec : {M : Type 1} → statement M
 step-refusal-spec =

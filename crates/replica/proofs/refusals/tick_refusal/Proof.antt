@@ -1,7 +1,7 @@
 -- `tick_refusal` meets its contract. Assumes nothing.
 use mathlib.Core.Path.{sym, _∙_}
 use borrow.Author.Tests.{le-leb, lt-leb}
-use Rattle.scram.specs.Events.{pick}
+use Rattle.lists.specs.Choice.{pick}
 use Rattle.replica.specs.Rules.{tickRefusal}
 use borrow.Author.Needs.{needs}
 use Rattle.replica.proofs.refusals.tick_refusal.Statement.{statement}

@@ -1,7 +1,7 @@
 -- `after_tick` meets its contract. Assumes nothing.
 use mathlib.Core.Path.{refl, sym, _∙_}
 use Rattle.scram.specs.Events.{afterTick}
-use Rattle.replica.proofs.Given.{gives-done, gives-true, gives-false}
+use Rattle.replica.proofs.Given.{says-done, says-true, says-false}
 use borrow.Author.Needs.{needs}
 use Rattle.replica.proofs.rules.after_tick.Statement.{statement}
 use Rattle.replica.proofs.rules.after_tick.Tie as tie
@@ -14,13 +14,13 @@ same-length c = search needs
 
 returns : tie.Need-returns
 unfolding afterTick
-returns c = gives-true _ _ (c .before .before .before .before .if1 .taken) (c .before .before .raise .ensures)
+returns c = λ law. says-true _ _ (c .before .before .before .before .if1 .taken) (c .before .before .raise .ensures law)
 
 leads-requires : tie.Need-leads-requires
 leads-requires c κs = search needs
 
 propose-requires : tie.Need-propose-requires
-propose-requires c κs = let s = c .before .before .before .before .before .before .before in (s .pre .0, s .pre .1)
+propose-requires c κs = let s = c .before .before .before .before .before .before in (s .pre .0, s .pre .1)
 
 same-length-2 : tie.Need-same-length-2
 same-length-2 c = search needs
@@ -28,17 +28,14 @@ same-length-2 c = search needs
 returns-2 : tie.Need-returns-2
 unfolding afterTick
 returns-2 c =
-    gives-false _ _ (c .before .before .before .before .before .before .before .before .if1 .left)
-    (gives-true _ _
-    (sym (c .before .before .before .before .before .before .before .leads .ensures)
-    ∙ c .before .before .before .before .before .before .if2 .taken) (c .before .before .propose .ensures))
+    λ law.
+    says-false _ _ (c .before .before .before .before .before .before .before .if1 .left)
+    (says-true _ _ (sym (c .before .before .before .before .before .before .leads .ensures) ∙ c .before .before .before .before .before .if2 .taken)
+    (c .before .before .propose .ensures law))
 
 returns-3 : tie.Need-returns-3
 unfolding afterTick
-returns-3 c =
-    gives-false _ _ (c .before .before .if1 .left)
-    (gives-false _ _ (sym (c .before .leads .ensures) ∙ c .if2 .left)
-    (gives-done refl))
+returns-3 c = λ law. says-false _ _ (c .before .before .if1 .left) (says-false _ _ (sym (c .before .leads .ensures) ∙ c .if2 .left) (says-done refl))
 
 pub after-tick-spec : {M : Type 1} → statement M
 after-tick-spec =

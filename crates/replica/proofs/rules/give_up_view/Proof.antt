@@ -2,7 +2,7 @@
 use mathlib.Core.Path.{sym, _∙_}
 use borrow.Author.Tests.{le-leb, lt-leb}
 use Rattle.scram.specs.Events.{giveUp}
-use Rattle.replica.proofs.Given.{gives-refused, gives-ignored, gives-true, gives-false}
+use Rattle.replica.proofs.Given.{says-refused, says-ignored, says-true, says-false}
 use borrow.Author.Needs.{needs}
 use Rattle.replica.proofs.rules.give_up_view.Statement.{statement}
 use Rattle.replica.proofs.rules.give_up_view.Tie as tie
@@ -15,7 +15,7 @@ ignored-requires c κs = search needs
 
 returns : tie.Need-returns
 unfolding giveUp
-returns c = gives-true _ _ (sym (c .before .before .idle .ensures) ∙ c .before .if1 .taken) (rw (c .ignored .ensures) (gives-ignored _ _ _))
+returns c = λ law. says-true _ _ (sym (c .before .before .idle .ensures) ∙ c .before .if1 .taken) (rw (c .ignored .ensures) (says-ignored _ _ _ _))
 
 normal-coordinator-requires : tie.Need-normal-coordinator-requires
 normal-coordinator-requires c κs = search needs
@@ -26,20 +26,20 @@ ignored-requires-2 c κs = search needs
 returns-2 : tie.Need-returns-2
 unfolding giveUp
 returns-2 c =
-    gives-false _ _ (sym (c .before .before .before .before .idle .ensures) ∙ c .before .before .before .if1 .left)
-    (gives-true _ _ (sym (c .before .before .normal-coordinator .ensures) ∙ c .before .if2 .taken)
-    (rw (c .ignored2 .ensures) (gives-ignored _ _ _)))
+    λ law.
+    says-false _ _ (sym (c .before .before .before .before .idle .ensures) ∙ c .before .before .before .if1 .left)
+    (says-true _ _ (sym (c .before .before .normal-coordinator .ensures) ∙ c .before .if2 .taken) (rw (c .ignored2 .ensures) (says-ignored _ _ _ _)))
 
-refused-requires : tie.Need-refused-requires
-refused-requires c κs = search needs
+refused-rule-requires : tie.Need-refused-rule-requires
+refused-rule-requires c κs = search needs
 
 returns-3 : tie.Need-returns-3
 unfolding giveUp
 returns-3 c =
-    gives-false _ _
-    (sym (c .before .before .before .before .before .before .idle .ensures) ∙ c .before .before .before .before .before .if1 .left)
-    (gives-false _ _ (sym (c .before .before .before .before .normal-coordinator .ensures) ∙ c .before .before .before .if2 .left)
-    (gives-true _ _ (le-leb _ _ (c .before .if3 .taken)) (rw (c .refused .ensures) (gives-refused _ _ _ 12))))
+    λ law.
+    says-false _ _ (sym (c .before .before .before .before .before .before .idle .ensures) ∙ c .before .before .before .before .before .if1 .left)
+    (says-false _ _ (sym (c .before .before .before .before .normal-coordinator .ensures) ∙ c .before .before .before .if2 .left)
+    (says-true _ _ (le-leb _ _ (c .before .if3 .taken)) (rw (c .refused-rule .ensures) (says-refused _ _ _ _ 12))))
 
 raise-requires : tie.Need-raise-requires
 raise-requires c κs = search needs
@@ -50,13 +50,12 @@ same-length c = search needs
 returns-4 : tie.Need-returns-4
 unfolding giveUp
 returns-4 c =
-    gives-false _ _
-    (sym (c .before .before .before .before .before .before .before .before .before .idle .ensures)
-    ∙ c .before .before .before .before .before .before .before .before .if1 .left)
-    (gives-false _ _
-    (sym (c .before .before .before .before .before .before .before .normal-coordinator .ensures)
-    ∙ c .before .before .before .before .before .before .if2 .left)
-    (gives-false _ _ (lt-leb _ _ (c .before .before .before .before .if3 .left)) (c .before .before .raise .ensures)))
+    λ law.
+    says-false _ _ (sym
+    (c .before .before .before .before .before .before .before .before .before .idle .ensures) ∙ c .before .before .before .before .before .before .before .before .if1 .left)
+    (says-false _ _ (sym
+    (c .before .before .before .before .before .before .before .normal-coordinator .ensures) ∙ c .before .before .before .before .before .before .if2 .left)
+    (says-false _ _ (lt-leb _ _ (c .before .before .before .before .if3 .left)) (c .before .before .raise .ensures law)))
 
 pub give-up-view-spec : {M : Type 1} → statement M
 give-up-view-spec =
@@ -68,7 +67,7 @@ give-up-view-spec =
     normal-coordinator-requires
     ignored-requires-2
     returns-2
-    refused-requires
+    refused-rule-requires
     returns-3
     raise-requires
     same-length

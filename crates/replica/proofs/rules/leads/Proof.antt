@@ -9,7 +9,7 @@ coordinator-requires : tie.Need-coordinator-requires
 coordinator-requires c κs = search needs
 
 returns : tie.Need-returns
-returns c = ap (eqb (c .before .before .args .replica .settings .own)) (c .before .coordinator .ensures)
+returns c = ap (eqb (c .before .before .args .member .own)) (c .before .coordinator .ensures)
 
 pub leads-spec : {M : Type 1} → statement M
 leads-spec = tie.close (tie.spec coordinator-requires returns)

@@ -1,10 +1,12 @@
 -- `count_heard` meets its contract. The loop's invariant: the boxes 1 to j are counted. Assumes nothing.
 use mathlib.Core.Path.{_≡_, refl, sym, ap, _∙_}
-use mathlib.Core.Bool.{Bool, true, false, cond}
+use mathlib.Core.Bool.{Bool}
 use Prim.Native.Nat.{ℕ, _+_, _-_, _≤_}
 use native.Mathlib.Numerals.{add-one}
 use native.Mathlib.Omega.{arith}
 use borrow.Author.Needs.{needs}
+use Rattle.lists.specs.Choice.{pick}
+use Rattle.lists.proofs.Choice.{pick-ok}
 use Rattle.scram.specs.Quorum.{among, count}
 use Rattle.scram.proofs.quorum.count_heard.Statement.{statement}
 use Rattle.scram.proofs.quorum.count_heard.Tie as tie
@@ -19,13 +21,12 @@ count-none : (p : ℕ → Bool) → count p 0 ≡ 0
 unfolding count
 count-none p = refl
 
-count-more : (p : ℕ → Bool) (j : ℕ) → count p (j + 1) ≡ count p j + cond (p (j + 1)) 1 0
+count-more : (p : ℕ → Bool) (j : ℕ) → count p (j + 1) ≡ count p j + pick (p (j + 1)) 1 0
 unfolding count
 count-more p j = rw add-one (omega arith)
 
-at-most-one : (b : Bool) → cond b 1 0 ≤ 1
-at-most-one true = omega arith
-at-most-one false = omega arith
+at-most-one : (b : Bool) → pick b 1 0 ≤ 1
+at-most-one b = pick-ok (λ n. n ≤ 1) b 1 0 (λ _. omega arith) (λ _. omega arith)
 
 loop-holds : tie.Need-loop-holds Inv-loop μ-loop
 loop-holds c = (omega arith, omega arith, sym (count-none _))

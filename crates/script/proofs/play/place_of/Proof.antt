@@ -2,6 +2,7 @@
 use borrow.Author.Tests.{lt-ltb, le-ltb}
 use borrow.Author.Needs.{needs}
 use native.Mathlib.Omega.{arith}
+use Rattle.lists.specs.Choice.{pick}
 use Rattle.script.specs.Play.{placeOf}
 use Rattle.script.proofs.play.place_of.Statement.{statement}
 use Rattle.script.proofs.play.place_of.Tie as tie
@@ -13,11 +14,11 @@ cast-result : tie.Need-cast-result
 cast-result c = search needs
 
 returns : tie.Need-returns
-unfolding placeOf
+unfolding placeOf pick
 returns c = (rw (← c .before .box-of .ensures, lt-ltb _ 10 (c .if1 .taken)), omega arith)
 
 returns-2 : tie.Need-returns-2
-unfolding placeOf
+unfolding placeOf pick
 returns-2 c = (rw (← c .before .box-of .ensures, le-ltb _ 10 (c .if1 .left)), omega arith)
 
 pub place-of-spec : {M : Type 1} → statement M

@@ -1,14 +1,14 @@
 -- `play::play_event` meets its contract. Assumes nothing.
+use borrow.Author.Needs.{needs}
 use mathlib.Core.Path.{ap, _∙_, subst}
 use lib.ListN.{getD, replicate}
 use native.Mathlib.Omega.{arith}
 use Rattle.replica.specs.Calls.{Gives}
+use Rattle.frame.specs.Lengths.{longestFrame, longestCommand}
 use Rattle.line.specs.Frames.{frameOf}
-use Rattle.script.specs.Printing.{stepLine}
+use Rattle.line.proofs.FrameLaws.{kept-there}
 use Rattle.script.specs.Play.{outcomeOf, eventOutcome}
-use Rattle.line.proofs.PlaceLaws.{kept-there}
 use Rattle.script.proofs.PlayLaws.{sent-fits, leaves-step}
-use borrow.Author.Needs.{needs}
 use Rattle.script.proofs.play.play_event.Statement.{statement}
 use Rattle.script.proofs.play.play_event.Tie as tie
 
@@ -76,15 +76,16 @@ returns c =
     ∙ ap (λ f. frameOf (a .table .now) f (getD (a .lengths .now) f 0))
     (c .before .before .before .before .before .before .before .before .before .before .before .before .before .before .before .before .before .before .before .before .line-of .ensures) in
     let g = subst
-    (λ b. Gives (a .replica .settings) (outcomeOf (a .replica) (a .event) (a .readings) b 69 24) (t .result) (replicate 69 0)
-    (t .last .1 .1 .1 .1 .0) (replicate 24 0) (t .last .1 .1 .1 .1 .1 .0)) bytes (t .ensures) in
+    (λ b. Gives (a .replica .settings) (outcomeOf (a .replica) (a .event) (a .readings) b longestFrame longestCommand) (t .result) (replicate longestFrame 0)
+    (t .last .1 .1 .1 .1 .0) (replicate longestCommand 0) (t .last .1 .1 .1 .1 .1 .0)) bytes (t .ensures) in
     let most = sent-fits (t .ensures) (t .kept .1 .1 .1 .1 .0) in
     let there =
     kept-there (a .table .now) (a .number) (t .last .1 .1 .1 .1 .0) (t .result .frame)
-    (omega (arith, most, t .kept .1 .1 .1 .1 .0)) (omega (arith, most)) (omega (arith, most, c .before .before .before .before .before .before .before .before .before .before .before .before .before .before .before .before .before .before .before .before .before .before .before .before .pre)) in
-    leaves-step _ _ (a .table .now) _ (a .lengths .now) _
+    (omega (arith, most, t .kept .1 .1 .1 .1 .0)) (omega (arith, most)) (omega
+    (arith, most, c .before .before .before .before .before .before .before .before .before .before .before .before .before .before .before .before .before .before .before .before .before .before .before .before .pre)) in
+    leaves-step _ _ _ _ (a .table .now) _ (a .lengths .now) _ _
     (c .before .before .step-line .result) g (c .before .before .before .before .before .before .before .before .before .keep .ensures ∙ there)
-    (c .before .before .step-line .ensures ∙ ap (λ b. stepLine (a .number) b (t .result) (t .last .1 .1 .1 .1 .1 .0)) (c .before .before .before .before .box-of .ensures))
+    (c .before .before .before .before .box-of .ensures) (c .before .before .step-line .ensures)
 
 pub play-event-spec : {M : Type 1} → statement M
 play-event-spec =

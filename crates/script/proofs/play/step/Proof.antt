@@ -3,9 +3,8 @@ use mathlib.Core.Path.{sym, subst}
 use lib.ListN.{length}
 use borrow.Author.Needs.{needs}
 use Rattle.replica.specs.Calls.{Gives}
-use Rattle.replica.specs.Rules.{ignoredStep}
-use Rattle.replica.proofs.Given.{gives-ignored}
 use Rattle.script.specs.Play.{outcomeOf}
+use Rattle.script.proofs.PlayLaws.{ignored, gives-ignored}
 use Rattle.script.proofs.play.step.Statement.{statement}
 use Rattle.script.proofs.play.step.Tie as tie
 
@@ -88,7 +87,7 @@ returns-4 c =
     subst
     (λ e. Gives (s .replica .settings)
     (outcomeOf (s .replica) e (s .readings) (s .arriving .now) (length (s .frame .now)) (length (s .command .now)))
-    (ignoredStep (s .replica)) (s .frame .now) (s .frame .now) (s .command .now) (s .command .now))
+    (ignored (s .replica)) (s .frame .now) (s .frame .now) (s .command .now) (s .command .now))
     (sym (c .enum-told4 .given .1)) (gives-ignored (s .replica) (s .frame .now) (s .command .now))
 
 pub step-spec : {M : Type 1} → statement M

@@ -1,8 +1,6 @@
 -- `printing::bad_line` meets its contract. Assumes nothing.
-use mathlib.Core.Path.{_∙_}
 use Rattle.script.specs.Printing.{badLine}
-use Rattle.script.proofs.TextLaws.{then-with}
-use Rattle.script.proofs.LineLaws.{bad-fits}
+use Rattle.text.proofs.PrintingLaws.{then-puts}
 use borrow.Author.Needs.{needs}
 use Rattle.script.proofs.printing.bad_line.Statement.{statement}
 use Rattle.script.proofs.printing.bad_line.Tie as tie
@@ -22,9 +20,8 @@ same-length c = search needs
 returns : tie.Need-returns
 unfolding badLine
 returns c =
-    then-with _ _ _ _ _ (c .before .before .before .before .before .before .before .put-decimal .ensures)
+    then-puts (c .before .before .before .before .before .before .before .put-decimal .ensures)
     (c .before .before .put-word .ensures)
-    ∙ bad-fits (c .before .before .before .before .before .before .before .before .before .before .args .number)
 
 pub bad-line-spec : {M : Type 1} → statement M
 bad-line-spec =

@@ -3,10 +3,10 @@ use mathlib.Core.Path.{_≡_, ap, _∙_}
 use lib.ListN.{length, take}
 use borrow.Author.Tests.{eq-eqb, ne-eqb}
 use native.Mathlib.Omega.{arith}
-use Rattle.script.specs.Text.{with, listed}
+use Rattle.lists.specs.Choice.{pick}
+use Rattle.text.specs.Printing.{listed}
 use Rattle.script.specs.Printing.{commandWord}
-use Rattle.script.proofs.TextLaws.{then-with}
-use Rattle.script.proofs.PlaceLaws.{first-in-use}
+use Rattle.text.proofs.PrintingLaws.{then-puts, puts-same, in-use, in-use-le}
 use borrow.Author.Needs.{needs}
 use Rattle.script.proofs.printing.put_command.Statement.{statement}
 use Rattle.script.proofs.printing.put_command.Tie as tie
@@ -24,10 +24,10 @@ same-length : tie.Need-same-length
 same-length c = search needs
 
 returns : tie.Need-returns
-unfolding commandWord
+unfolding commandWord pick
 returns c =
     rw (eq-eqb _ _ (c .before .before .before .before .if1 .taken))
-    (then-with _ _ _ _ _ (c .before .before .before .before .before .before .before .put-byte .ensures)
+    (then-puts (c .before .before .before .before .before .before .before .put-byte .ensures)
     (c .before .before .put-byte2 .ensures))
 
 command-values-requires : tie.Need-command-values-requires
@@ -43,7 +43,7 @@ part-put-list-start : tie.Need-part-put-list-start
 part-put-list-start c = search needs
 
 part-put-list-end : tie.Need-part-put-list-end
-part-put-list-end c = omega (arith, four (c .before .before .before), c .before .before .at-most .ensures)
+part-put-list-end c = omega (arith, four (c .before .before .before), in-use-le 4 _ _ (c .before .before .at-most .ensures))
 
 put-list-requires : tie.Need-put-list-requires
 put-list-requires c κs = search needs
@@ -52,18 +52,18 @@ same-length-2 : tie.Need-same-length-2
 same-length-2 c = search needs
 
 returns-2 : tie.Need-returns-2
-unfolding commandWord
+unfolding commandWord pick
 returns-2 c =
     let s = c .before .before .before .before .before .before .before .before .before .before .before .before .before .before .before .args in
     let v = c .before .before .before .before .before .before .before .command-values in
     let u = c .before .before .before .before .before .before .at-most .ensures in
     rw (ne-eqb _ _ (c .before .before .before .before .before .before .before .before .if1 .left))
-    (then-with _ _ _ _ _ (c .before .before .before .before .before .before .before .before .before .before .before .put-byte .ensures)
-    (c .before .before .put-list .ensures
-    ∙ ap (with _)
+    (then-puts (c .before .before .before .before .before .before .before .before .before .before .before .put-byte .ensures)
+    (puts-same
     (ap listed
-    (first-in-use (v .result) 4 (s .p) _ (four (c .before .before .before .before .before .before .before)) (u .1) (u .2)
-    ∙ ap (take (s .p)) (v .ensures)))))
+    (in-use (v .result) 4 (s .p) _ (four (c .before .before .before .before .before .before .before)) u
+    ∙ ap (take (s .p)) (v .ensures)))
+    (c .before .before .put-list .ensures)))
 
 pub put-command-spec : {M : Type 1} → statement M
 put-command-spec =

@@ -1,6 +1,6 @@
 -- `printing::put_counters` meets its contract. Assumes nothing.
 use Rattle.script.specs.Printing.{counterWords}
-use Rattle.script.proofs.TextLaws.{then-with}
+use Rattle.text.proofs.PrintingLaws.{then-puts}
 use borrow.Author.Needs.{needs}
 use Rattle.script.proofs.printing.put_counters.Statement.{statement}
 use Rattle.script.proofs.printing.put_counters.Tie as tie
@@ -23,10 +23,10 @@ same-length c = search needs
 returns : tie.Need-returns
 unfolding counterWords
 returns c =
-    then-with _ _ _ _ _
+    then-puts
     (c .before .before .before .before .before .before .before .before .before .before .before .before .before .before .put-counter .ensures)
-    (then-with _ _ _ _ _ (c .before .before .before .before .before .before .before .before .before .before .put-counter2 .ensures)
-    (then-with _ _ _ _ _ (c .before .before .before .before .before .before .put-counter3 .ensures)
+    (then-puts (c .before .before .before .before .before .before .before .before .before .before .put-counter2 .ensures)
+    (then-puts (c .before .before .before .before .before .before .put-counter3 .ensures)
     (c .before .before .put-counter4 .ensures)))
 
 pub put-counters-spec : {M : Type 1} → statement M

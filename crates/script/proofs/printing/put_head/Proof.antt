@@ -1,6 +1,6 @@
 -- `printing::put_head` meets its contract. Assumes nothing.
 use Rattle.script.specs.Printing.{headWords}
-use Rattle.script.proofs.TextLaws.{then-with}
+use Rattle.text.proofs.PrintingLaws.{then-puts}
 use borrow.Author.Needs.{needs}
 use Rattle.script.proofs.printing.put_head.Statement.{statement}
 use Rattle.script.proofs.printing.put_head.Tie as tie
@@ -23,10 +23,10 @@ same-length c = search needs
 returns : tie.Need-returns
 unfolding headWords
 returns c =
-    then-with _ _ _ _ _
+    then-puts
     (c .before .before .before .before .before .before .before .before .before .before .before .before .before .before .put-decimal .ensures)
-    (then-with _ _ _ _ _ (c .before .before .before .before .before .before .before .before .before .before .put-counter .ensures)
-    (then-with _ _ _ _ _ (c .before .before .before .before .before .before .put-byte .ensures) (c .before .before .put-answer .ensures)))
+    (then-puts (c .before .before .before .before .before .before .before .before .before .before .put-counter .ensures)
+    (then-puts (c .before .before .before .before .before .before .put-byte .ensures) (c .before .before .put-answer .ensures)))
 
 pub put-head-spec : {M : Type 1} → statement M
 put-head-spec =

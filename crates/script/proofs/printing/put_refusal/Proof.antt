@@ -1,5 +1,5 @@
 -- `printing::put_refusal` meets its contract. Assumes nothing.
-use Rattle.script.proofs.TextLaws.{then-with}
+use Rattle.text.proofs.PrintingLaws.{then-puts}
 use borrow.Author.Needs.{needs}
 use Rattle.script.proofs.printing.put_refusal.Statement.{statement}
 use Rattle.script.proofs.printing.put_refusal.Tie as tie
@@ -14,7 +14,7 @@ same-length : tie.Need-same-length
 same-length c = search needs
 
 returns : tie.Need-returns
-returns c = then-with _ _ _ _ _ (c .before .before .before .before .before .before .put-byte .ensures) (c .before .before .put-decimal .ensures)
+returns c = then-puts (c .before .before .before .before .before .before .put-byte .ensures) (c .before .before .put-decimal .ensures)
 
 pub put-refusal-spec : {M : Type 1} → statement M
 put-refusal-spec = tie.close (tie.spec put-byte-requires put-decimal-requires same-length returns)

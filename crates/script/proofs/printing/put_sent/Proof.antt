@@ -1,7 +1,8 @@
 -- `printing::put_sent` meets its contract. Assumes nothing.
 use borrow.Author.Tests.{eq-eqb, ne-eqb}
 use Rattle.script.specs.Printing.{sentWord}
-use Rattle.script.proofs.TextLaws.{then-with}
+use Rattle.lists.specs.Choice.{pick}
+use Rattle.text.proofs.PrintingLaws.{then-puts}
 use borrow.Author.Needs.{needs}
 use Rattle.script.proofs.printing.put_sent.Statement.{statement}
 use Rattle.script.proofs.printing.put_sent.Tie as tie
@@ -16,10 +17,10 @@ same-length : tie.Need-same-length
 same-length c = search needs
 
 returns : tie.Need-returns
-unfolding sentWord
+unfolding sentWord pick
 returns c =
     rw (eq-eqb _ _ (c .before .before .before .before .if1 .taken))
-    (then-with _ _ _ _ _ (c .before .before .before .before .before .before .before .put-byte .ensures)
+    (then-puts (c .before .before .before .before .before .before .before .put-byte .ensures)
     (c .before .before .put-byte2 .ensures))
 
 put-decimal-requires : tie.Need-put-decimal-requires
@@ -29,10 +30,10 @@ same-length-2 : tie.Need-same-length-2
 same-length-2 c = search needs
 
 returns-2 : tie.Need-returns-2
-unfolding sentWord
+unfolding sentWord pick
 returns-2 c =
     rw (ne-eqb _ _ (c .before .before .before .before .if1 .left))
-    (then-with _ _ _ _ _ (c .before .before .before .before .before .before .before .put-byte .ensures)
+    (then-puts (c .before .before .before .before .before .before .before .put-byte .ensures)
     (c .before .before .put-decimal .ensures))
 
 pub put-sent-spec : {M : Type 1} → statement M

@@ -1,16 +1,16 @@
 -- `printing::put_state` meets its contract. Assumes nothing.
-use mathlib.Core.Path.{_≡_, ap, _∙_}
+use mathlib.Core.Path.{_≡_, ap}
 use lib.ListN.{length}
 use native.Mathlib.Omega.{arith}
-use Rattle.script.specs.Text.{with, listed}
+use Rattle.text.specs.Printing.{listed}
 use Rattle.script.specs.Printing.{stateWord}
-use Rattle.script.proofs.TextLaws.{then-with}
-use Rattle.script.proofs.PlaceLaws.{first-in-use}
+use Rattle.text.proofs.PrintingLaws.{then-puts, puts-same, in-use, in-use-le}
+use Rattle.script.proofs.LineLengths.{state-length}
 use borrow.Author.Needs.{needs}
 use Rattle.script.proofs.printing.put_state.Statement.{statement}
 use Rattle.script.proofs.printing.put_state.Tie as tie
 
-six : (c : tie.Start) → length (c .args .replica .state) ≡ 6
+six : (c : tie.Start) → length (c .args .replica .held .estimate .state) ≡ 6
 six c = search needs
 
 at-most-requires : tie.Need-at-most-requires
@@ -29,8 +29,8 @@ part-put-list-end : tie.Need-part-put-list-end
 part-put-list-end c =
     omega (
       arith,
-      six (c .before .before .before .before .before .before .before .before .before),
-      c .before .before .before .before .before .before .at-most .ensures,
+      six (c .before .before .before .before .before .before .before .before .before .before),
+      in-use-le 6 _ _ (c .before .before .before .before .before .before .at-most .ensures),
     )
 
 put-list-requires : tie.Need-put-list-requires
@@ -42,14 +42,16 @@ same-length c = search needs
 returns : tie.Need-returns
 unfolding stateWord
 returns c =
-    let s = c .before .before .before .before .before .before .before .before .before .before .before .before .before .args in
-    let u = c .before .before .before .before .before .before .before .before .before .before .at-most .ensures in
-    then-with _ _ _ _ _ (c .before .before .before .before .before .before .before .before .put-byte .ensures)
-    (c .before .before .put-list .ensures
-    ∙ ap (with _)
-    (ap listed
-    (first-in-use (s .replica .state) 6 (s .replica .settings .law .n) _
-    (six (c .before .before .before .before .before .before .before .before .before .before .before .before .before)) (u .1) (u .2))))
+    let s = c .before .before .before .before .before .before .before .before .before .before .before .before .before .before .args in
+    let u = c .before .before .before .before .before .before .before .before .before .before .at-most .ensures in (
+      then-puts (c .before .before .before .before .before .before .before .before .put-byte .ensures)
+          (puts-same
+          (ap listed
+          (in-use (s .replica .held .estimate .state) 6 (s .replica .settings .law .n) _
+          (six (c .before .before .before .before .before .before .before .before .before .before .before .before .before .before)) u))
+          (c .before .before .put-list .ensures)),
+      state-length (s .replica) (six (c .before .before .before .before .before .before .before .before .before .before .before .before .before .before)),
+    )
 
 pub put-state-spec : {M : Type 1} → statement M
 put-state-spec =

@@ -1,17 +1,10 @@
 -- `printing::step_line` meets its contract. Assumes nothing.
-use mathlib.Core.Path.{_≡_, _∙_}
-use mathlib.Core.List.{[], _∷_}
-use lib.ListN.{length}
-use Rattle.script.specs.Text.{with}
 use Rattle.script.specs.Printing.{stepLine}
-use Rattle.script.proofs.TextLaws.{then-with}
-use Rattle.script.proofs.LineLaws.{line-fits}
+use Rattle.text.proofs.PrintingLaws.{then-puts}
+use Rattle.script.proofs.LineLengths.{line-length}
 use borrow.Author.Needs.{needs}
 use Rattle.script.proofs.printing.step_line.Statement.{statement}
 use Rattle.script.proofs.printing.step_line.Tie as tie
-
-six : (c : tie.Start) → length (c .args .s .replica .state) ≡ 6
-six c = search needs
 
 put-head-requires : tie.Need-put-head-requires
 put-head-requires c κs = search needs
@@ -37,16 +30,17 @@ same-length c = search needs
 returns : tie.Need-returns
 unfolding stepLine
 returns c =
-    let a = c .before .before .before .before .before .before .before .before .before .before .before .before .before .before .before .before .before .before .before .before .before .before .before .before .before .before .before in
-    let feed : _ ≡ with _ (10 ∷ []) = c .before .before .put-byte .ensures in
-    then-with _ _ _ _ _
-    (c .before .before .before .before .before .before .before .before .before .before .before .before .before .before .before .before .before .before .before .before .before .before .put-head .ensures)
-    (then-with _ _ _ _ _
-    (c .before .before .before .before .before .before .before .before .before .before .before .before .before .before .before .before .before .before .put-counters .ensures)
-    (then-with _ _ _ _ _ (c .before .before .before .before .before .before .before .before .before .before .before .before .before .before .put-state .ensures)
-    (then-with _ _ _ _ _ (c .before .before .before .before .before .before .before .before .before .before .put-sent .ensures)
-    (then-with _ _ _ _ _ (c .before .before .before .before .before .before .put-command .ensures) feed))))
-    ∙ line-fits (a .args .number) (a .args .who) (a .args .s) (a .args .command .now) (six a)
+    let s = c .before .before .before .before .before .before .before .before .before .before .before .before .before .before .before .before .before .before .before .before .before .before .before .before .before .before .before in (
+      then-puts
+          (c .before .before .before .before .before .before .before .before .before .before .before .before .before .before .before .before .before .before .before .before .before .before .put-head .ensures)
+          (then-puts
+          (c .before .before .before .before .before .before .before .before .before .before .before .before .before .before .before .before .before .before .put-counters .ensures)
+          (then-puts (c .before .before .before .before .before .before .before .before .before .before .before .before .before .before .put-state .ensures .0)
+          (then-puts (c .before .before .before .before .before .before .before .before .before .before .put-sent .ensures)
+          (then-puts (c .before .before .before .before .before .before .put-command .ensures) (c .before .before .put-byte .ensures))))),
+      line-length (s .args .number) (s .args .who) (s .args .s) (s .args .command .now)
+          (c .before .before .before .before .before .before .before .before .before .before .before .before .before .before .put-state .ensures .1),
+    )
 
 pub step-line-spec : {M : Type 1} → statement M
 step-line-spec =

@@ -28,7 +28,7 @@ marks-of-requires c κs = search needs
 
 returns-2 : tie.Need-returns-2
 returns-2 c =
-    let b = c .before .before .before .before .before .before .before in
+    let b = c .before .before .before .before .before .before .before .before in
     let read = b .before .before .read in
     let answer = sym (b .if1 .left) ∙ b .before .frame-number .ensures ∙ read .ensures .0 in
     let frame = read .ensures .1 in (
@@ -38,10 +38,10 @@ returns-2 c =
         (
           ap countersOf frame ∙ done _ _ _ (sym answer),
           (
-            ap (λ (f : Frame). f .state) frame ∙ done _ _ _ (sym answer),
+            ap (λ (f : Frame). f .estimate .state) frame ∙ done _ _ _ (sym answer),
             (
-              c .before .marks-of .ensures ∙ ap (λ (f : Frame). marksOf (f .readings)) frame ∙ done _ _ _ (sym answer),
-              ap (λ (f : Frame). f .readings .values) frame ∙ done _ _ _ (sym answer),
+              c .before .marks-of .ensures ∙ ap (λ (f : Frame). marksOf (f .estimate .readings)) frame ∙ done _ _ _ (sym answer),
+              ap (λ (f : Frame). f .estimate .readings .values) frame ∙ done _ _ _ (sym answer),
             ),
           ),
         ),

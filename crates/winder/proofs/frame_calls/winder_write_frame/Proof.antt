@@ -5,7 +5,7 @@ use Prim.Native.Nat.{ℕ}
 use lib.ListN.{length}
 use borrow.Author.Needs.{needs}
 use Rattle.frame.specs.declared.Frame.{Frame}
-use Rattle.frame.specs.Bytes.{over}
+use Rattle.bytes.specs.Areas.{over}
 use Rattle.frame.specs.Writing.{writeRefusal, written}
 use Rattle.winder.proofs.Refused.{done, refused}
 use Rattle.winder.proofs.frame_calls.winder_write_frame.Statement.{statement}

@@ -1,0 +1,42 @@
+-- `bytes::word::put_u16` meets its contract: the remainders are the bytes of the number. Assumes nothing.
+use native.Mathlib.Omega.{arith}
+use lib.ListN.{length-set}
+use Rattle.bytes.specs.Words.{littleEndian}
+use Rattle.bytes.proofs.Areas.{put-two}
+use borrow.Author.Needs.{needs}
+use Rattle.bytes.proofs.word.put_u16.Statement.{statement}
+use Rattle.bytes.proofs.word.put_u16.Tie as tie
+
+cast-area : tie.Need-cast-area
+cast-area c = search needs
+
+slice-write-area : tie.Need-slice-write-area
+slice-write-area c = search needs
+
+cast-area-2 : tie.Need-cast-area-2
+cast-area-2 c = search needs
+
+add-area : tie.Need-add-area
+add-area c = search needs
+
+slice-write-area-2 : tie.Need-slice-write-area-2
+slice-write-area-2 c = simp length-set (omega arith)
+
+same-length : tie.Need-same-length
+same-length c = search needs
+
+returns : tie.Need-returns
+unfolding littleEndian
+returns c = put-two (c .args .area .now) (c .args .at) _ _ (c .pre)
+
+pub put-u16-spec : {M : Type 1} → statement M
+put-u16-spec =
+    tie.close
+    (tie.spec
+    cast-area
+    slice-write-area
+    cast-area-2
+    add-area
+    slice-write-area-2
+    same-length
+    returns)

@@ -1,0 +1,77 @@
+-- `law::tables::issue` meets its contract. Assumes nothing.
+use mathlib.Core.Path.{_≡_, sym, ap, _∙_}
+use native.Mathlib.Omega.{arith}
+use lib.ListN.{length}
+use borrow.Author.Needs.{needs}
+use Rattle.law.specs.declared.Settings.{Settings}
+use Rattle.law.specs.Settings.{settingsOf, refusal}
+use Rattle.law.specs.Law.{commanded}
+use Rattle.law.proofs.Accepted.{Accepted, accepted}
+use Rattle.law.proofs.Laws.{updated-accepted, commanded-accepted, issued-commanded, issued-refused}
+use Rattle.law.proofs.tables.issue.Statement.{statement}
+use Rattle.law.proofs.tables.issue.Tie as tie
+
+-- the settings that a caller's tables make
+abbrev given : tie.Start → Settings
+given s =
+    let a = s .args in
+    settingsOf (a .n) (a .m) (a .p) (a .a .now) (a .l .now) (a .c .now) (a .k .now) (a .low .now) (a .high .now)
+
+-- behind the test: nothing is refused
+passed : (c : tie.Else1) → refusal (given (c .before .before .before)) ≡ 0
+passed c = sym (c .before .number-of .ensures ∙ c .before .before .check .ensures) ∙ c .if1 .left
+
+known : (c : tie.Else1) → Accepted (given (c .before .before .before))
+known c = accepted _ (passed c)
+
+check-requires : tie.Need-check-requires
+check-requires c κs = search needs
+
+number-of-requires : tie.Need-number-of-requires
+number-of-requires c κs = search needs
+
+returns : tie.Need-returns
+returns c =
+    let answer = c .before .before .check .ensures in
+    (answer, issued-refused _ _ _ (λ h. c .if1 .taken (c .before .number-of .ensures ∙ answer ∙ h)))
+
+updated-state-requires : tie.Need-updated-state-requires
+updated-state-requires c κs =
+    let k = known (c .before .before .before .before) in
+    (k .sizes .n6, k .sizes .m4, search needs, search needs, search needs, omega (arith, k .sizes .n6), k .a, k .l, k .c)
+
+slice-aggregate-command-values : tie.Need-slice-aggregate-command-values
+slice-aggregate-command-values c = search needs
+
+six : (c : tie.After-next) → length (c .before .before .before .before .updated-state .result) ≡ 6
+six c = search needs
+
+command-values-requires : tie.Need-command-values-requires
+command-values-requires c κs =
+    let k = known (c .before .before .before .before .before .before .before .before .before) in
+    (k .sizes .n6, k .sizes .p4, search needs, omega (arith, k .sizes .p4), omega (arith, k .sizes .p4), omega (arith, six c, k .sizes .n6), k .k)
+
+returns-2 : tie.Need-returns-2
+returns-2 c =
+    let u = c .before .before .before .before .before in
+    let b = u .before .before .before .before .before in
+    let s = b .before .before .before in
+    let state : u .updated-state .result ≡ _ = u .updated-state .ensures ∙ updated-accepted (given s) (s .args .state .now) (s .args .readings) (passed b) in (
+      b .before .before .check .ensures,
+      c .command-values .ensures
+          ∙ commanded-accepted (given s) (u .updated-state .result) (passed b)
+          ∙ ap (commanded (given s)) state
+          ∙ issued-commanded (given s) (s .args .state .now) (s .args .readings),
+    )
+
+pub issue-spec : {M : Type 1} → statement M
+issue-spec =
+    tie.close
+    (tie.spec
+    check-requires
+    number-of-requires
+    returns
+    updated-state-requires
+    slice-aggregate-command-values
+    command-values-requires
+    returns-2)

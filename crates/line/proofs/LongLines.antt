@@ -1,0 +1,187 @@
+-- A line of the format is short: `short-lines`. So a line that is cut, to more bytes than that, is none before it is cut and none after. Assumes
+-- nothing.
+use mathlib.Core.Path.{_≡_, refl, ap}
+use mathlib.Core.Bool.{Bool, true, false, _&&_, _||_}
+use mathlib.Core.List.{List, [], _∷_}
+use Prim.Native.Nat.{ℕ, zero, suc, _+_, _*_, _-_, _≤_, _<_}
+use native.Mathlib.Omega.{arith}
+use lib.Dec.{eqb, leb, ltb}
+use lib.ListN.{length, getD}
+use borrow.Author.Tests.{eqb-true, eqb-false, ltb-true}
+use Rattle.lists.specs.Choice.{pick}
+use Rattle.lists.specs.Below.{allBelow}
+use Rattle.lists.proofs.Booleans.{both, never}
+use Rattle.lists.proofs.Choice.{pick-holds}
+use Rattle.lists.proofs.Below.{all-at}
+use Rattle.text.specs.declared.numbers.Number.{Number}
+use Rattle.text.specs.declared.numbers.Number.the-variants.{Whole, Malformed}
+use Rattle.line.specs.declared.events.Event.{Event}
+use Rattle.line.specs.declared.events.Event.the-variants.{Bad}
+use Rattle.line.specs.declared.events.Called.{Called}
+use Rattle.text.specs.Numbers.{numberOf, counted, isWhole}
+use Rattle.line.specs.Fields.{oneMore, spaces, oneLess, behindSpaces, upToSpace, field}
+use Rattle.line.specs.Events.{letterOf, boxOf, isReading, allReadings, tickCalled, giveUpCalled, deliveryCalled, calledFor, called}
+use Rattle.line.proofs.FieldLaws.{behind-found}
+use Rattle.text.proofs.PrintingLengths.{signed-length}
+use Rattle.text.proofs.RoundTrip.{printed-reads}
+
+-- ---- the fields of a line, one byte after the other
+
+module _ (b : ℕ) (bs : List ℕ) where
+  space-count : eqb b 32 ≡ true → spaces (b ∷ bs) ≡ suc (spaces bs)
+  unfolding spaces oneMore pick
+  space-count e = rw e
+
+  space-first : eqb b 32 ≡ true → field 0 (b ∷ bs) ≡ []
+  unfolding field behindSpaces upToSpace pick
+  space-first e = rw e
+
+  space-next : (j : ℕ) → eqb b 32 ≡ true → field (suc j) (b ∷ bs) ≡ field j bs
+  unfolding field behindSpaces oneLess pick
+  space-next j e = let p : suc j - 1 ≡ j = omega arith in rw (e, p)
+
+  other-count : eqb b 32 ≡ false → spaces (b ∷ bs) ≡ spaces bs
+  unfolding spaces oneMore pick
+  other-count e = rw e
+
+  other-first : eqb b 32 ≡ false → field 0 (b ∷ bs) ≡ b ∷ field 0 bs
+  unfolding field behindSpaces upToSpace pick
+  other-first e = rw (e, behind-found bs)
+
+  other-next : (j : ℕ) → eqb b 32 ≡ false → field (suc j) (b ∷ bs) ≡ field (suc j) bs
+  unfolding field behindSpaces oneLess pick
+  other-next j e = rw e
+
+-- fields of at most 11 bytes, the first of which stands behind a bytes
+pub narrow : (line : List ℕ) (a : ℕ) → a + length (field 0 line) ≤ 11 → ((j : ℕ) → j < spaces line → length (field (suc j) line) ≤ 11)
+    → a + length line ≤ 12 * spaces line + 11
+narrow [] a first others = omega arith
+narrow (b ∷ bs) a first others = by (eqb b 32) refl (narrow bs)
+  where
+    by : (t : Bool) → eqb b 32 ≡ t
+        → ((a : ℕ) → a + length (field 0 bs) ≤ 11 → ((j : ℕ) → j < spaces bs → length (field (suc j) bs) ≤ 11) → a + length bs ≤ 12 * spaces bs + 11)
+        → a + length (b ∷ bs) ≤ 12 * spaces (b ∷ bs) + 11
+    by true e rest =
+        let n = space-count b bs e in
+        let f = ap length (space-next b bs 0 e) in
+        let g = ap length (space-first b bs e) in
+        let h = rest 0 (omega (arith, f, others 0 (omega arith))) (λ j l. omega (
+          arith,
+          ap length (space-next b bs (suc j) e),
+          others (suc j)
+              (omega arith),
+        )) in
+        omega arith
+    by false e rest =
+        let n = other-count b bs e in
+        let f = ap length (other-first b bs e) in
+        let h = rest (suc a) (omega arith) (λ j l. omega (arith, ap length (other-next b bs j e), others j (omega arith))) in
+        omega arith
+
+-- ---- what a field may hold
+
+pub number-length : (word : List ℕ) (n : Number) → numberOf word ≡ n → isWhole n ≡ true → length word ≤ 11
+unfolding isWhole
+number-length word (Whole z) e w = omega (arith, ap length (printed-reads word z e), signed-length z)
+number-length word Malformed e w = never w
+
+counted-length : (word : List ℕ) (n : Number) → numberOf word ≡ n → 0 < counted n → length word ≤ 11
+unfolding counted isWhole
+counted-length word (Whole z) e w = number-length word (Whole z) e refl
+counted-length word Malformed e w = absurd (omega arith)
+
+letter-length : (word : List ℕ) → 0 < letterOf word → length word ≤ 11
+unfolding letterOf pick
+letter-length word h = by (eqb (length word) 1) refl h
+  where
+    by : (t : Bool) → eqb (length word) 1 ≡ t → 0 < pick (eqb (length word) 1) (getD word 0 0) 0 → length word ≤ 11
+    by true e h = omega (arith, eqb-true (length word) 1 e)
+    by false e h = absurd (let z = rw e at h in omega arith)
+
+reading-length : (word : List ℕ) → isReading word ≡ true → length word ≤ 11
+unfolding isReading
+reading-length word e = by (isWhole (numberOf word)) refl e
+  where
+    by : (t : Bool) → isWhole (numberOf word) ≡ t → (isWhole (numberOf word) || eqb (letterOf word) 45) ≡ true → length word ≤ 11
+    by true q e = number-length word (numberOf word) refl q
+    by false q e = letter-length word (omega (arith, eqb-true (letterOf word) 45 (rw q at e)))
+
+box-length : (boxes : ℕ) (word : List ℕ) → (boxOf boxes word ≡ 0 → ⊥) → length word ≤ 11
+unfolding boxOf pick
+box-length boxes word h = by (leb (counted (numberOf word)) boxes) refl h
+  where
+    by : (t : Bool) → leb (counted (numberOf word)) boxes ≡ t → (pick (leb (counted (numberOf word)) boxes) (counted (numberOf word)) 0 ≡ 0 → ⊥)
+        → length word ≤ 11
+    by true e h = counted-length word (numberOf word) refl (omega (arith, rw e at h))
+    by false e h = absurd (h (rw e))
+
+-- ---- the three kinds of lines
+
+module _ (m : ℕ) (line : List ℕ) (box : length (field 1 line) ≤ 11) where
+  -- where there is an event, the line is short
+  abbrev Short : Event → Type 0
+  Short event = (event ≡ Bad → ⊥) → length line ≤ 12 * m + 35
+
+  begins : (b : ℕ) → 0 < b → eqb (letterOf (field 0 line)) b ≡ true → length (field 0 line) ≤ 11
+  begins b h e = letter-length (field 0 line) (omega (arith, eqb-true (letterOf (field 0 line)) b e))
+
+  tick-length : length (field 0 line) ≤ 11 → (eqb (spaces line) (m + 1) && allReadings m line) ≡ true → length line ≤ 12 * m + 35
+  unfolding allReadings
+  tick-length first e =
+      let q = both (eqb (spaces line) (m + 1)) _ e in
+      let n = eqb-true (spaces line) (m + 1) (q .0) in
+      let h = narrow line 0 (omega arith) (λ j l. at j (omega arith) (q .1)) in
+      omega arith
+    where
+      at : (j : ℕ) → j < m + 1 → allBelow m (λ i. isReading (field (i + 2) line)) ≡ true → length (field (suc j) line) ≤ 11
+      at zero l all = box
+      at (suc i) l all =
+          let z : i + 2 ≡ suc (suc i) = omega arith in
+          rw z at (reading-length (field (i + 2) line) (all-at (λ i. isReading (field (i + 2) line)) m i all (omega arith)))
+
+  give-up-length : length (field 0 line) ≤ 11 → eqb (spaces line) 1 ≡ true → length line ≤ 12 * m + 35
+  give-up-length first e =
+      let n = eqb-true (spaces line) 1 e in
+      let h = narrow line 0 (omega arith) (λ j l. at j (omega arith)) in
+      omega arith
+    where
+      at : (j : ℕ) → j < 1 → length (field (suc j) line) ≤ 11
+      at zero l = box
+      at (suc i) l = absurd (omega arith)
+
+  delivery-length : length (field 0 line) ≤ 11 → (eqb (spaces line) 2 && ltb 0 (counted (numberOf (field 2 line)))) ≡ true → length line ≤ 12 * m + 35
+  delivery-length first e =
+      let q = both (eqb (spaces line) 2) _ e in
+      let n = eqb-true (spaces line) 2 (q .0) in
+      let f = counted-length (field 2 line) (numberOf (field 2 line)) refl (ltb-true 0 _ (q .1)) in
+      let h = narrow line 0 (omega arith) (λ j l. at j (omega arith) f) in
+      omega arith
+    where
+      at : (j : ℕ) → j < 2 → length (field 2 line) ≤ 11 → length (field (suc j) line) ≤ 11
+      at zero l f = box
+      at (suc zero) l f = f
+      at (suc (suc i)) l f = absurd (omega arith)
+
+  abbrev ShortCall : Called → Type 0
+  ShortCall c = Short (c .event)
+
+  short-called : (at : ℕ) → Short (calledFor at m (letterOf (field 0 line)) (spaces line) line .event)
+  unfolding calledFor tickCalled giveUpCalled deliveryCalled
+  short-called at =
+      let letter = letterOf (field 0 line) in
+      let f = counted (numberOf (field 2 line)) in
+      pick-holds ShortCall (eqb letter 84) _ _
+      (λ t. pick-holds ShortCall (eqb (spaces line) (m + 1) && allReadings m line) _ _ (λ e _. tick-length (begins 84 (omega arith) t) e) (λ _ h. absurd
+      (h refl)))
+      (λ _. pick-holds ShortCall (eqb letter 71) _ _
+      (λ g. pick-holds Short (eqb (spaces line) 1) _ _ (λ e _. give-up-length (begins 71 (omega arith) g) e) (λ _ h. absurd (h refl)))
+      (λ _. pick-holds ShortCall (eqb letter 68) _ _
+      (λ d. pick-holds Short (eqb (spaces line) 2 && ltb 0 f) _ _ (λ e _. delivery-length (begins 68 (omega arith) d) e) (λ _ h. absurd (h refl)))
+      (λ _ h. absurd (h refl))))
+
+-- a line with more bytes is no line of the format
+pub short-lines : (boxes m : ℕ) (line : List ℕ) → (called boxes m line .event ≡ Bad → ⊥) → length line ≤ 12 * m + 35
+unfolding called
+short-lines boxes m line =
+    pick-holds (λ (c : Called). (c .event ≡ Bad → ⊥) → length line ≤ 12 * m + 35) (eqb (boxOf boxes (field 1 line)) 0) _ _ (λ _ h. absurd (h refl))
+    (λ e. short-called m line (box-length boxes (field 1 line) (eqb-false _ 0 e)) (boxOf boxes (field 1 line)))

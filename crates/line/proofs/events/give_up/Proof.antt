@@ -1,0 +1,24 @@
+-- `events::give_up` meets its contract. Assumes nothing.
+use borrow.Author.Needs.{needs}
+use borrow.Author.Tests.{eq-eqb, ne-eqb}
+use Rattle.lists.specs.Choice.{pick}
+use Rattle.line.specs.Events.{giveUpCalled}
+use Rattle.line.proofs.events.give_up.Statement.{statement}
+use Rattle.line.proofs.events.give_up.Tie as tie
+
+calls-requires : tie.Need-calls-requires
+calls-requires c κs = search needs
+
+returns : tie.Need-returns
+unfolding giveUpCalled pick
+returns c = rw (eq-eqb _ _ (c .before .if1 .taken)) (c .calls .ensures)
+
+calls-requires-2 : tie.Need-calls-requires-2
+calls-requires-2 c κs = search needs
+
+returns-2 : tie.Need-returns-2
+unfolding giveUpCalled pick
+returns-2 c = rw (ne-eqb _ _ (c .before .if1 .left)) (c .calls2 .ensures)
+
+pub give-up-spec : {M : Type 1} → statement M
+give-up-spec = tie.close (tie.spec calls-requires returns calls-requires-2 returns-2)

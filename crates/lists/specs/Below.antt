@@ -1,0 +1,8 @@
+-- A test of each number below a bound.
+use Prim.Native.Nat.{ℕ, zero, suc}
+use mathlib.Core.Bool.{Bool, true, _&&_}
+
+-- whether a test holds of each number below n
+unfoldable pub allBelow : ℕ → (ℕ → Bool) → Bool
+allBelow zero test = true
+allBelow (suc n) test = allBelow n test && test n

@@ -1,0 +1,111 @@
+-- A whole script: its lines, what they leave one after the other, and what `bench` and `rig` print of it.
+use Prim.Native.Nat.{ℕ, zero, suc, _+_, _*_, min}
+use mathlib.Core.Path.{_≡_}
+use mathlib.Core.List.{List, [], _∷_, _++_}
+use lib.ListN.{length, getD, set, replicate}
+use lib.Dec.{eqb}
+use Rattle.lists.specs.Choice.{pick}
+use Rattle.bytes.specs.Areas.{over}
+use Rattle.line.specs.declared.events.Called.{Called}
+use Rattle.line.specs.Events.{called}
+use Rattle.replica.specs.declared.Settings.{Settings}
+use Rattle.replica.specs.declared.Replica.{Replica}
+use Rattle.replica.specs.Settings.{blankSettings}
+use Rattle.replica.specs.Settings.{settingsRefusal}
+use Rattle.replica.specs.Calls.{made}
+use Rattle.opening.specs.declared.Opening.{Opening}
+use Rattle.opening.specs.declared.Opening.the-variants.{Bad, Refused, Ready}
+use Rattle.opening.specs.Opening.{sizesIn, openedBy}
+use Rattle.setup.specs.Bench.{bench}
+use Rattle.script.specs.Printing.{headerLine, badAlone, refusalLine}
+use Rattle.script.specs.Play.{most, tableLength, lineRoom, placeOf, afterEvent, freshBoxes}
+
+-- ---- the lines
+
+-- what stands before the first line feed, which is 10
+unfoldable pub firstLine : List ℕ → List ℕ
+firstLine [] = []
+firstLine (b ∷ bs) = pick (eqb b 10) [] (b ∷ firstLine bs)
+
+-- what stands behind it
+unfoldable pub behindLine : List ℕ → List ℕ
+behindLine [] = []
+behindLine (b ∷ bs) = pick (eqb b 10) bs (behindLine bs)
+
+-- the lines of a text, at most k of them: "A last line may lack its line feed."
+unfoldable pub linesOf : ℕ → List ℕ → List (List ℕ)
+linesOf zero text = []
+linesOf (suc k) [] = []
+linesOf (suc k) (b ∷ bs) = firstLine (b ∷ bs) ∷ linesOf k (behindLine (b ∷ bs))
+
+-- ---- what they leave
+
+-- what lines leave: the replicas, box b's at place b, the table of frames sent, the list of their lengths, and what was printed
+pub record Left : Type 0 where
+  pub replicas : List Replica
+  pub table : List ℕ
+  pub lengths : List ℕ
+  pub printed : List ℕ
+
+-- the same, of its four values
+abbrev pub left : List Replica → List ℕ → List ℕ → List ℕ → Left
+left replicas table lengths printed = record { replicas = replicas; table = table; lengths = lengths; printed = printed }
+
+-- before the first line: fresh replicas, no frame sent, and the header line printed
+unfoldable pub unplayed : Settings → Left
+unplayed s = left (freshBoxes s) (replicate tableLength 0) (replicate (most + 1) 0) headerLine
+
+-- the replica at a place; there is one at each place that an event has
+abbrev pub replicaAt : List Replica → ℕ → Replica
+replicaAt replicas place = getD replicas place (made blankSettings)
+
+-- one line more, of this number, that calls for c: its box has the replica then that the line leaves, and what the line prints is printed behind
+unfoldable pub afterCall : Left → ℕ → Called → Left
+afterCall l number c =
+    let a = afterEvent (replicaAt (l .replicas) (placeOf (c .event))) (c .event) (c .readings) number (l .table) (l .lengths) in
+    record {
+      replicas = set (l .replicas) (placeOf (c .event)) (a .replica);
+      table = a .table;
+      lengths = a .lengths;
+      printed = l .printed ++ a .printed;
+    }
+
+-- what the lines of a script leave, in a group of so many boxes with m readings, the first of them behind `number` others
+unfoldable pub played : (boxes m number : ℕ) → Left → List (List ℕ) → Left
+played boxes m number l [] = l
+played boxes m number l (line ∷ lines) = played boxes m (suc number) (afterCall l (suc number) (called boxes m line)) lines
+
+-- what a script leaves that is played by a group with these settings, which has at most four readings; "It reads at most 500 lines"
+unfoldable pub leftBy : Settings → List ℕ → Left
+leftBy s text = played (s .boxes) (min (s .law .m) 4) 0 (unplayed s) (linesOf most text)
+
+-- ---- what the programs print
+
+-- what program `bench` prints of the text on its standard input
+unfoldable pub benchOutput : List ℕ → List ℕ
+benchOutput text = leftBy bench text .printed
+
+-- what the rig prints of a group that its first line describes, "`r` and the number alone" where making refuses its settings
+unfoldable pub groupOutput : Settings → List ℕ → List ℕ
+groupOutput s text = pick (eqb (settingsRefusal s) 0) (leftBy s text .printed) (refusalLine (settingsRefusal s))
+
+-- what it prints of a first line: `bad` or the refusal of its sizes alone, or what the group that it describes prints of the lines behind
+unfoldable pub openedOutput : Opening → Settings → List ℕ → List ℕ
+openedOutput Bad s text = badAlone
+openedOutput (Refused number) s text = refusalLine number
+openedOutput Ready s text = groupOutput s text
+
+-- what program `rig` prints of the text on its standard input: the first line describes a group, and the lines behind are played
+unfoldable pub rigOutput : List ℕ → List ℕ
+rigOutput text =
+    let o = openedBy (firstLine text) (sizesIn (firstLine text)) in
+    openedOutput (o .opening) (o .settings) (behindLine text)
+
+-- no script prints more: the header line, and `most` lines
+abbrev pub outputRoom : ℕ
+outputRoom = 40 + lineRoom * most
+
+-- a call prints this to the start of an area: it tells how many bytes, and those behind keep what they held
+pub record Prints (printed : List ℕ) (r : ℕ) (area area′ : List ℕ) : Type 0 where
+  pub count : r ≡ length printed
+  pub bytes : area′ ≡ over printed area

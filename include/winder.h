@@ -1,5 +1,6 @@
 /*
- * The controller law of a winder in fixed point, and the frames that its boxes send each other: crate winder as a static library.
+ * The controller law of a winder in fixed point, the frames that its boxes send each other, and their commands: crate winder as a static
+ * library.
  *
  * Sizes. A controller has n states (1 to 6), m readings and p commands (each 1 to 4). Every area is as long as its prototype says,
  * whatever n, m and p are; places beyond n, m and p are not looked at.
@@ -9,12 +10,8 @@
  *
  * A row of readings. present[j] is 0 where reading j is absent, and anything else where it is present; values[j] is its value.
  *
- * Results. Each function returns 0, or the number of a refusal; the lowest number comes first. Refused, every area holds what it held.
- *   2  n, m or p outside its range
- *   3  a coefficient outside its range
- *   4  a lower limit above its upper
- *   5  a frame area under 69 bytes
- *   8  no frame: length, kind, part count, byte 3, pairs, marks or absent values
+ * Results. Each call but winder_version returns 0, or the number of a refusal (enum winder_refusal); the lowest number comes first.
+ * Refused, every area holds what it held.
  *
  * Asked of the caller: no pointer is null, not even one with the length 0; and an area that a call writes overlaps no other area of
  * that call. Nothing else is asked: any numbers may stand in the areas. The functions keep nothing between calls, and of the C library
@@ -26,12 +23,60 @@
 #include <stddef.h>
 #include <stdint.h>
 
-/* The longest frame, which a frame area must have room for whatever the length of the frame. */
+/*
+ * The version: major version times 100, and minor version. A further call makes a new minor version; a call that is gone or means
+ * something else makes a new major one. winder_version says for which version the archive was made.
+ */
+#define WINDER_VERSION 100
+#define WINDER_VERSION_TEXT "1.0"
+
+/* The most states, readings and commands; the least of each is 1. */
+#define WINDER_STATES_MAX 6
+#define WINDER_READINGS_MAX 4
+#define WINDER_COMMANDS_MAX 4
+
+/* The largest coefficient; the lowest is its negative. */
+#define WINDER_COEFFICIENT_MAX 16777216
+
+/* The longest frame, which a frame area must have room for whatever the length of the frame; and the longest command. */
 #define WINDER_FRAME_AREA 69
+#define WINDER_COMMAND_AREA 24
+
+/* The kinds of frames. */
+enum winder_kind {
+    WINDER_PROPOSE = 1,
+    WINDER_ACK = 2,
+    WINDER_DECIDE = 3,
+    WINDER_ESTIMATE = 4
+};
+
+enum winder_refusal {
+    WINDER_REFUSED_SIZES = 2,       /* n, m or p outside its range */
+    WINDER_REFUSED_COEFFICIENT = 3, /* a coefficient outside its range */
+    WINDER_REFUSED_LIMITS = 4,      /* a lower limit above its upper */
+    WINDER_REFUSED_AREA = 5,        /* a frame area under 69 bytes */
+    WINDER_REFUSED_FRAME = 8        /* no frame: length, kind, part count, byte 3, pairs, marks or absent values; or no command */
+};
+
+/* What the law is given once: sizes, tables and limits. */
+struct winder_settings {
+    size_t n;
+    size_t m;
+    size_t p;
+    int32_t a[36];
+    int32_t l[24];
+    int32_t c[24];
+    int32_t k[24];
+    int32_t low[4];
+    int32_t high[4];
+};
 
 #ifdef __cplusplus
 extern "C" {
 #endif
+
+/* The version of the archive: WINDER_VERSION of the header that it was made with. */
+uint32_t winder_version(void);
 
 /*
  * Update: the state after one period with these readings.
@@ -58,6 +103,28 @@ uint32_t winder_update(
     const int32_t values[4],
     int32_t state[6]);
 
+/* The same, with settings from a struct. */
+static inline uint32_t winder_update_with(
+    const struct winder_settings *settings,
+    const uint8_t present[4],
+    const int32_t values[4],
+    int32_t state[6])
+{
+    return winder_update(
+        settings->n,
+        settings->m,
+        settings->p,
+        settings->a,
+        settings->l,
+        settings->c,
+        settings->k,
+        settings->low,
+        settings->high,
+        present,
+        values,
+        state);
+}
+
 /*
  * The commands of a state.
  *
@@ -81,12 +148,32 @@ uint32_t winder_command(
     const int32_t state[6],
     int32_t commands[4]);
 
+/* The same, with settings from a struct. */
+static inline uint32_t winder_command_with(
+    const struct winder_settings *settings,
+    const int32_t state[6],
+    int32_t commands[4])
+{
+    return winder_command(
+        settings->n,
+        settings->m,
+        settings->p,
+        settings->a,
+        settings->l,
+        settings->c,
+        settings->k,
+        settings->low,
+        settings->high,
+        state,
+        commands);
+}
+
 /*
  * Reads a frame of n states and m readings. bytes is the whole frame, bytes_length its length.
  *
- * Out: ends holds kind (1 Propose, 2 Ack, 3 Decide, 4 Estimate) and sender; counters holds period, view, base view and base period;
- * state holds the state, and 0 in the places beyond n; present holds 1 for a present reading, else 0; values holds the readings, and 0
- * where absent and in the places beyond m. An Ack has neither state nor readings: there all three are 0 in every place.
+ * Out: kind_and_sender holds the kind (enum winder_kind), then the sender; counters holds period, view, base view and base period; state
+ * holds the state, and 0 in the places beyond n; present holds 1 for a present reading, else 0; values holds the readings, and 0 where
+ * absent and in the places beyond m. An Ack has neither state nor readings: there all three are 0 in every place.
  *
  * Refuses by 2 for n and m, then by 8. Whether the sender, the view's coordinator and the base fields are right is not looked at.
  */
@@ -95,17 +182,17 @@ uint32_t winder_read_frame(
     size_t m,
     const uint8_t *bytes,
     size_t bytes_length,
-    uint8_t ends[2],
+    uint8_t kind_and_sender[2],
     uint32_t counters[4],
     int32_t state[6],
     uint8_t present[4],
     int32_t values[4]);
 
 /*
- * Writes a frame of n states and m readings to the start of an area. ends, counters, state, present and values are laid out as
- * winder_read_frame gives them; an Ack takes nothing of state, present and values.
+ * Writes a frame of n states and m readings to the start of an area. kind_and_sender, counters, state, present and values are laid out
+ * as winder_read_frame gives them; an Ack takes nothing of state, present and values.
  *
- * Out: area starts with the frame, and bytes behind it keep what they held; *length is the frame's length.
+ * Out: area starts with the frame, and bytes after it keep what they held; *length is the frame's length.
  *
  * Refuses by 2 for n and m, then by 5 for an area_length under 69, then by 8: a kind that is not 1 to 4, a present mark at or above m,
  * or a value that is not 0 under an absent mark.
@@ -113,7 +200,7 @@ uint32_t winder_read_frame(
 uint32_t winder_write_frame(
     size_t n,
     size_t m,
-    const uint8_t ends[2],
+    const uint8_t kind_and_sender[2],
     const uint32_t counters[4],
     const int32_t state[6],
     const uint8_t present[4],
@@ -121,6 +208,20 @@ uint32_t winder_write_frame(
     uint8_t *area,
     size_t area_length,
     size_t *length);
+
+/*
+ * Reads a command of p values, which a box writes where it decides. bytes is the whole command, bytes_length its length.
+ *
+ * Out: *period is the period that the command was decided for; commands holds its values, and 0 in the places beyond p.
+ *
+ * Refuses by 2 for p, then by 8: a length that is not 8 + 4 * p, byte 0 not 5, byte 1 not p, or byte 2 or 3 not 0.
+ */
+uint32_t winder_read_command(
+    size_t p,
+    const uint8_t *bytes,
+    size_t bytes_length,
+    uint32_t *period,
+    int32_t commands[4]);
 
 #ifdef __cplusplus
 }

@@ -5,7 +5,6 @@
 
 #include "line.h"
 #include "plant.h"
-#include "winder.h"
 
 #define NEWTON 100.0                /* units of tension, setpoint, drag and command in one newton */
 #define METRE_PER_SECOND 1000000.0  /* units of lead in one metre per second */
@@ -67,35 +66,30 @@ static int32_t scaled(double gain)
 }
 
 /* Row i of A carries the effect of the command: the model's row, and what the feedback of each state brings about. */
-static void fill_row(struct Controller *controller, size_t i)
+static void fill_row(struct winder_settings *law, size_t i)
 {
     for (size_t j = 0; j < STATES; j++) {
-        controller->a[i * 6 + j] = scaled(model[i][j] + effect[i] * feedback[j]);
+        law->a[i * 6 + j] = scaled(model[i][j] + effect[i] * feedback[j]);
     }
+}
+
+static struct winder_settings settings(void)
+{
+    struct winder_settings law = {.n = STATES, .m = READINGS, .p = COMMANDS, .low = {LOWEST_COMMAND}, .high = {HIGHEST_COMMAND}};
+    for (size_t i = 0; i < STATES; i++) {
+        fill_row(&law, i);
+        law.l[i * 4 + TENSION_READ] = scaled(correction[i][TENSION_READ]);
+        law.l[i * 4 + SETPOINT_READ] = scaled(correction[i][SETPOINT_READ]);
+        law.k[i] = scaled(feedback[i]);
+    }
+    law.c[TENSION_READ * 6 + TENSION] = scaled(1.0);
+    law.c[SETPOINT_READ * 6 + SETPOINT] = scaled(1.0);
+    return law;
 }
 
 struct Controller controller_at_start(void)
 {
-    struct Controller controller = {.low = {LOWEST_COMMAND}, .high = {HIGHEST_COMMAND}};
-    for (size_t i = 0; i < STATES; i++) {
-        fill_row(&controller, i);
-        controller.l[i * 4 + TENSION_READ] = scaled(correction[i][TENSION_READ]);
-        controller.l[i * 4 + SETPOINT_READ] = scaled(correction[i][SETPOINT_READ]);
-        controller.k[i] = scaled(feedback[i]);
-    }
-    controller.c[TENSION_READ * 6 + TENSION] = scaled(1.0);
-    controller.c[SETPOINT_READ * 6 + SETPOINT] = scaled(1.0);
-    return controller;
-}
-
-static uint32_t update(struct Controller *law, const uint8_t present[4], const int32_t values[4])
-{
-    return winder_update(STATES, READINGS, COMMANDS, law->a, law->l, law->c, law->k, law->low, law->high, present, values, law->state);
-}
-
-static uint32_t command_of(const struct Controller *law, int32_t commands[4])
-{
-    return winder_command(STATES, READINGS, COMMANDS, law->a, law->l, law->c, law->k, law->low, law->high, law->state, commands);
+    return (struct Controller){.law = settings()};
 }
 
 uint32_t controller_step(struct Controller *controller, bool is_read, double tension, double setpoint, double *command)
@@ -104,11 +98,11 @@ uint32_t controller_step(struct Controller *controller, bool is_read, double ten
     int32_t values[4] = {[TENSION_READ] = (int32_t)lround(tension * NEWTON), [SETPOINT_READ] = (int32_t)lround(setpoint * NEWTON)};
     int32_t commands[4];
 
-    uint32_t refusal = update(controller, present, values);
+    uint32_t refusal = winder_update_with(&controller->law, present, values, controller->state);
     if (refusal != 0) {
         return refusal;
     }
-    refusal = command_of(controller, commands);
+    refusal = winder_command_with(&controller->law, controller->state, commands);
     if (refusal == 0) {
         *command = commands[0] / NEWTON;
     }

@@ -10,11 +10,12 @@
 #include <stdbool.h>
 #include <stdint.h>
 
+#include "winder.h"
+
 #define PERIOD 0.01 /* s */
 
 struct Controller {
-    int32_t a[36], l[24], c[24], k[24];
-    int32_t low[4], high[4];
+    struct winder_settings law;
     int32_t state[6];
 };
 

@@ -18,7 +18,7 @@ static const char head[] =
     "path { fill: none; stroke-linejoin: round } .frame { fill: none; stroke: #333 } .tick { stroke: #333 }\n"
     ".grid { stroke: #e4e4e4 } .mark { stroke: #999; stroke-dasharray: 3 3 } .shade { fill: #f3dfb5 }\n"
     ".setpoint { stroke: #888; stroke-width: 1.2 } .tension { stroke: #1f5fa8; stroke-width: 1.4 }\n"
-    ".command { stroke: #b4501e; stroke-width: 1.4 }\n"
+    ".command { stroke: #b4501e; stroke-width: 1.4 } .reading { stroke: #b5cde8; stroke-width: 1 }\n"
     "</style>\n"
     "<rect width=\"960\" height=\"760\" fill=\"#fff\"/>\n"
     "<text class=\"title\" x=\"60\" y=\"30\">One roll wound under the law</text>\n";
@@ -41,6 +41,11 @@ static double setpoint_of(const struct Row *row)
 static double tension_of(const struct Row *row)
 {
     return row->tension;
+}
+
+static double reading_of(const struct Row *row)
+{
+    return row->reading;
 }
 
 static double command_of(const struct Row *row)
@@ -86,9 +91,11 @@ static void write_tension(const struct Record *record)
     panel_y_ticks(&panel, 40.0);
     panel_x_ticks(&panel, 250.0, 0);
     mark_events(&panel);
+    panel_curve(&panel, record, length_of, reading_of, "reading");
     panel_curve(&panel, record, length_of, setpoint_of, "setpoint");
     panel_curve(&panel, record, length_of, tension_of, "tension");
     panel_frame(&panel, "Web tension", "web wound, m", "N");
+    key(612.0, 63.0, "reading", "load cell's reading");
     key(768.0, 63.0, "tension", "tension");
     key(856.0, 63.0, "setpoint", "setpoint");
 }
@@ -123,6 +130,7 @@ static void write_detail(const struct Record *record, int place, const char *tit
     panel_y_ticks(&panel, y_step);
     panel_x_ticks(&panel, 0.5, 1);
     shade_unread(&panel, record);
+    panel_curve(&panel, record, time_of, reading_of, "reading");
     panel_curve(&panel, record, time_of, setpoint_of, "setpoint");
     panel_curve(&panel, record, time_of, tension_of, "tension");
     panel_frame(&panel, title, "time, s", "N");

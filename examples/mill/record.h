@@ -7,9 +7,10 @@
 
 #define MOST_ROWS 30000
 
-/* As things stand when the period's readings are taken; the command is the one that the period brings. Metres, seconds, newtons. */
+/* As things stand when the period's readings are taken; the tension is the web's, the reading is what the load cell tells of it; the
+ * command is the one that the period brings. Metres, seconds, newtons. */
 struct Row {
-    double time, length, radius, speed, setpoint, tension, command;
+    double time, length, radius, speed, setpoint, tension, reading, command;
     bool splice, present;
 };
 

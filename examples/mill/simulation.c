@@ -1,5 +1,6 @@
 #include "simulation.h"
 
+#include "cell.h"
 #include "controller.h"
 #include "drive.h"
 #include "line.h"
@@ -10,6 +11,7 @@
 
 struct Winder {
     struct Plant plant;
+    struct Cell cell;
     struct Drive drive;
     struct Line line;
     struct Controller controller;
@@ -27,6 +29,7 @@ static struct Row read_winder(const struct Winder *winder, double now)
         .speed = winder->line.speed,
         .setpoint = line_setpoint(radius),
         .tension = plant_tension(&winder->plant),
+        .reading = cell_reading(&winder->cell),
         .splice = line_in_splice(length),
         .present = line_tension_is_read(length),
     };
@@ -40,6 +43,7 @@ static void move_on(struct Winder *winder, double now)
         line_step(&winder->line, now + step * time, plant->radius, time);
         double torque = drive_step(&winder->drive, winder->command, plant->radius, winder->line.acceleration, time);
         plant_step(plant, winder->line.speed, line_slack(wound_length(plant->radius)), torque, time);
+        cell_sample(&winder->cell, plant_tension(plant));
     }
 }
 
@@ -47,7 +51,7 @@ static void move_on(struct Winder *winder, double now)
 static uint32_t one_period(struct Winder *winder, struct Row *row, double now)
 {
     *row = read_winder(winder, now);
-    uint32_t refusal = controller_step(&winder->controller, row->present, row->tension, row->setpoint, &row->command);
+    uint32_t refusal = controller_step(&winder->controller, row->present, row->reading, row->setpoint, &row->command);
     if (refusal != 0) {
         return refusal;
     }
@@ -64,7 +68,7 @@ static bool has_ended(const struct Winder *winder, const struct Record *record)
 
 uint32_t simulate(struct Record *record)
 {
-    struct Winder winder = {.plant = plant_at_start(), .controller = controller_at_start()};
+    struct Winder winder = {.plant = plant_at_start(), .cell = cell_at_start(), .controller = controller_at_start()};
     record->count = 0;
     while (!has_ended(&winder, record)) {
         uint32_t refusal = one_period(&winder, &record->rows[record->count], (double)record->count * PERIOD);

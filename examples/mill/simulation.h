@@ -6,7 +6,7 @@
 
 #include "record.h"
 
-/* Winds one roll and fills the record. The result is 0, or the number by which the law refused the call of the row behind the last. */
+/* Winds one roll and fills the record. The result is 0, or the number by which the law refused the call of the row after the last. */
 uint32_t simulate(struct Record *record);
 
 #endif

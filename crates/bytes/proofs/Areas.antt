@@ -1,4 +1,4 @@
--- Laws of an area that bytes were put into: stores are bytes put, and bytes put one behind the other are bytes put at once.
+-- Laws of an area that bytes were put into: stores are bytes put, and bytes put one after the other are bytes put at once.
 -- Assumes nothing.
 use mathlib.Core.Path.{_≡_, sym, ap, _∙_}
 use mathlib.Core.List.{List, [], _∷_, _++_, append-assoc}
@@ -31,7 +31,7 @@ pub put-nothing : (l : List ℕ) (i : ℕ) → l ≡ put l i []
 unfolding put
 put-nothing l i = rw add-zero (sym (take-append-drop i l))
 
--- bytes put right behind bytes that were put
+-- bytes put right after bytes that were put
 pub put-put : (l : List ℕ) (i j : ℕ) (xs ys : List ℕ) → i + length xs ≡ j → j + length ys ≤ length l
     → put (put l i xs) j ys ≡ put l i (xs ++ ys)
 unfolding put

@@ -41,7 +41,7 @@ fromTwosComplement x = pick (ltb x 2147483648) (pos x) (negsuc (4294967296 - suc
 abbrev pub valueLength : ℕ
 valueLength = 4
 
--- i32 values, one behind the other
+-- i32 values, one after the other
 unfoldable pub valuesBytes : List ℤ → List ℕ
 valuesBytes [] = []
 valuesBytes (z ∷ zs) = littleEndian valueLength (twosComplement z) ++ valuesBytes zs

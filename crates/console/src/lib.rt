@@ -1,9 +1,10 @@
-// Standard input gathered into one area as it comes, and standard output. No contract can say what standard input held, nor what was written: the contracts
-// here speak of lengths and of areas alone.
+// Standard input gathered into one area as it comes, standard output and standard error. No contract can say what standard input held, nor what was
+// written: the contracts here speak of lengths and of areas alone.
 ghost use mathlib.Core.Path.{_≡_};
 ghost use Prim.Native.Nat.{_≤_};
 ghost use lib.ListN.{length, take, drop};
 ghost use Rattle.lists.specs.Choice.{pick};
+use libc::STDERR_FILENO;
 use libc::STDIN_FILENO;
 use libc::STDOUT_FILENO;
 use text::printing::at_most;
@@ -127,7 +128,7 @@ pub fn read_more(g: Gathered, most: usize, chunk: &mut [u8; CHUNK], area: &mut [
     }
 }
 
-// Hands the bytes of an area behind the first `from`, up to the first n, to standard output, and tells how many those are. What was written no
+// Hands the bytes of an area after the first `from`, up to the first n, to standard output, and tells how many those are. What was written no
 // contract can say.
 pub fn write_more(bytes: &[u8], from: usize, n: usize) -> usize
     ensures { λ r. ⌜ r ≡ length (drop from (take n (now (bytes .entry)))) ⌝ }
@@ -138,4 +139,13 @@ pub fn write_more(bytes: &[u8], from: usize, n: usize) -> usize
     }
     io::write_all(STDOUT_FILENO, &text[from..]);
     text.len() - from
+}
+
+// Hands the first n bytes of an area to standard error, and tells how many those are.
+pub fn write_error(bytes: &[u8], n: usize) -> usize
+    ensures { λ r. ⌜ r ≡ length (take n (now (bytes .entry))) ⌝ }
+{
+    let text = first(bytes, n);
+    io::write_all(STDERR_FILENO, text);
+    text.len()
 }

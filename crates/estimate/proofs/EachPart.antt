@@ -13,7 +13,7 @@ use Rattle.lists.specs.I32.{AllI32}
 use Rattle.lists.proofs.Booleans.{both}
 use Rattle.lists.proofs.Places.{filled-same, take-filled}
 use Rattle.readings.specs.declared.Readings.{Readings}
-use Rattle.readings.specs.Readings.{value, normalised, strayMark}
+use Rattle.readings.specs.Readings.{value, normalised, markBeyond}
 use Rattle.bytes.specs.Words.{AllBytes, valuesBytes, valueAt}
 use Rattle.bytes.proofs.Numbers.{bytes-drop}
 use Rattle.bytes.proofs.ValueLists.{value-forth, values-back}
@@ -28,13 +28,13 @@ use Rattle.estimate.proofs.PresentMarks.{value-as-given, normalised-cle
 -- ---- what it tells that readings can be written, or were read
 
 pub record Writable (m : ℕ) (y : Readings) : Type 0 where
-  pub clean : strayMark m y ≡ false
+  pub clean : markBeyond m y ≡ false
   pub absent : absentZero m y ≡ true
 
 pub writable-facts : (m : ℕ) (y : Readings) → writable m y ≡ true → Writable m y
 unfolding writable
 writable-facts m y e =
-    let p = both (not (strayMark m y)) (absentZero m y) e in record { clean = not-true _ (p .0); absent = p .1 }
+    let p = both (not (markBeyond m y)) (absentZero m y) e in record { clean = not-true _ (p .0); absent = p .1 }
 
 writable-holds : (m : ℕ) (y : Readings) → Writable m y → writable m y ≡ true
 unfolding writable
@@ -44,7 +44,7 @@ writable-holds m y w = rw (w .clean, w .absent)
 pub normalised-writable : (m : ℕ) (y : Readings) → m ≤ 4 → normalised m y ≡ y → writable m y ≡ true
 normalised-writable m y h e =
     writable-holds m y
-    (record { clean = ap (strayMark m) (sym e) ∙ normalised-clean m y h; absent = ap (absentZero m) (sym e) ∙ normalised-absent m y h })
+    (record { clean = ap (markBeyond m) (sym e) ∙ normalised-clean m y h; absent = ap (absentZero m) (sym e) ∙ normalised-absent m y h })
 
 record Found (m : ℕ) (p : List ℕ) : Type 0 where
   marks : marksBelow m (marksAt p) ≡ true
@@ -56,7 +56,7 @@ found m p e = let q = both (marksBelow m (marksAt p)) _ e in record { marks = q 
 
 -- ---- what was written is read again
 
-values-forth : (k : ℕ) (vs : List ℤ) → k ≤ length vs → AllI32 vs → (j : ℕ) → j < k → valueAt (valuesBytes (take k vs)) j ≡ entry vs j
+pub values-forth : (k : ℕ) (vs : List ℤ) → k ≤ length vs → AllI32 vs → (j : ℕ) → j < k → valueAt (valuesBytes (take k vs)) j ≡ entry vs j
 values-forth k vs h s j l =
     let same = getD-take k vs j (pos 0) l in
     value-forth (take k vs) j (rw (length-take-le k vs h) l) (rw same (s j)) ∙ same
@@ -108,7 +108,7 @@ module _ (m : ℕ) (p : List ℕ) (high : m ≤ 4) (good : readingsOk m p ≡ tr
   unfolding readingsBytes
   readings-back h e = (λ i. marks-part i ∷ values-part h e i) ∙ cons-back p (omega arith)
 
-  clean-back : 1 ≤ m → strayMark m (readingsIn m p) ≡ false
+  clean-back : 1 ≤ m → markBeyond m (readingsIn m p) ≡ false
   unfolding readingsIn
   clean-back low = below-clean m (marksAt p) _ low high (found m p good .marks)
 

@@ -13,8 +13,8 @@ use mir.Val.{SFits, ofZ}
 use Rattle.readings.specs.declared.Readings.{Readings}
 use Rattle.lists.specs.Choice.{pick}
 use Rattle.lists.specs.Places.{entry, filled}
-use Rattle.readings.specs.Readings.{present, value, normalised, anyMark, strayMark}
-use Rattle.lists.proofs.Places.{filled-at, filled-behind}
+use Rattle.readings.specs.Readings.{present, value, normalised, anyMark, markBeyond}
+use Rattle.lists.proofs.Places.{filled-at, filled-beyond}
 use Rattle.estimate.specs.Marks.{bit, marksByte, marksIn, marksBelow, isZero, absentZero}
 use Rattle.lists.proofs.Booleans.{never}
 use Rattle.lists.proofs.Below.{all-of, all-at}
@@ -99,17 +99,17 @@ filled-unmarked zero (suc m) f = blanks-unmarked 0
 filled-unmarked (suc width) zero f = blanks-unmarked (suc width)
 filled-unmarked (suc width) (suc m) f = filled-unmarked width m (λ i. f (suc i))
 
-module _ (m : ℕ) (y : Readings) (four-marks : length (y .present) ≡ 4) (clean : strayMark m y ≡ false) where
+module _ (m : ℕ) (y : Readings) (four-marks : length (y .present) ≡ 4) (clean : markBeyond m y ≡ false) where
   -- the marks below m are all there are
   pub marks-below : filled false 4 m (present y) ≡ y .present
-  unfolding strayMark
+  unfolding markBeyond
   marks-below = ap (λ (w : ℕ). filled false w m (present y)) (sym four-marks) ∙ marks-in-use (y .present) m clean
 
   unmarked : (j : ℕ) → m ≤ j → present y j ≡ false
-  unmarked j l = ap (λ (marks : List Bool). getD marks j false) (sym marks-below) ∙ filled-behind false 4 m j (present y) l
+  unmarked j l = ap (λ (marks : List Bool). getD marks j false) (sym marks-below) ∙ filled-beyond false 4 m j (present y) l
 
 -- the byte of such marks
-byte-lt : (m : ℕ) (y : Readings) → length (y .present) ≡ 4 → strayMark m y ≡ false → 1 ≤ m → m ≤ 4 → marksByte y < 2 ^ m
+byte-lt : (m : ℕ) (y : Readings) → length (y .present) ≡ 4 → markBeyond m y ≡ false → 1 ≤ m → m ≤ 4 → marksByte y < 2 ^ m
 unfolding marksByte pick
 byte-lt zero y h s low high = absurd (omega arith)
 byte-lt (suc zero) y h s low high =
@@ -125,7 +125,7 @@ byte-lt (suc (suc (suc (suc zero)))) y h s low high =
     omega (arith, bit-le (present y 0), bit-le (present y 1), bit-le (present y 2), bit-le (present y 3))
 byte-lt (suc (suc (suc (suc (suc m))))) y h s low high = absurd (omega arith)
 
-pub byte-below : (m : ℕ) (y : Readings) → length (y .present) ≡ 4 → strayMark m y ≡ false → 1 ≤ m → m ≤ 4 → marksBelow m (marksByte y) ≡ true
+pub byte-below : (m : ℕ) (y : Readings) → length (y .present) ≡ 4 → markBeyond m y ≡ false → 1 ≤ m → m ≤ 4 → marksBelow m (marksByte y) ≡ true
 unfolding marksBelow
 byte-below m y h s low high = lt-ltb (marksByte y) (2 ^ m) (byte-lt m y h s low high)
 
@@ -133,8 +133,8 @@ bit-clear : (x : ℕ) → x ≡ 0 → eqb (x % 2) 1 ≡ false
 bit-clear x e = rw e
 
 -- and back
-pub below-clean : (m k : ℕ) (values : List ℤ) → 1 ≤ m → m ≤ 4 → marksBelow m k ≡ true → strayMark m (record { present = marksIn k; values = values }) ≡ false
-unfolding marksBelow strayMark marksIn anyMark
+pub below-clean : (m k : ℕ) (values : List ℤ) → 1 ≤ m → m ≤ 4 → marksBelow m k ≡ true → markBeyond m (record { present = marksIn k; values = values }) ≡ false
+unfolding marksBelow markBeyond marksIn anyMark
 below-clean zero k values low high h = absurd (omega arith)
 below-clean (suc zero) k values low high h =
     let l : k < 2 = ltb-true k 2 h in rw (bit-clear (k / 2) (omega arith), bit-clear (k / 4) (omega arith), bit-clear (k / 8) (omega arith))
@@ -183,8 +183,8 @@ value-as-given m y h j l = as-read (present y j) (entry (y .values) j) (all-at (
 -- ---- readings as the law reads them
 
 module _ (m : ℕ) (y : Readings) (m≤4 : m ≤ 4) where
-  pub normalised-clean : strayMark m (normalised m y) ≡ false
-  unfolding strayMark normalised
+  pub normalised-clean : markBeyond m (normalised m y) ≡ false
+  unfolding markBeyond normalised
   normalised-clean = filled-unmarked 4 m (present y)
 
   pub normalised-absent : absentZero m (normalised m y) ≡ true

@@ -17,7 +17,7 @@ use Rattle.estimate.specs.Reading.{stateIn, readingsIn, readingsOk, stat
 use Rattle.estimate.proofs.Lengths.{length-state}
 use Rattle.estimate.proofs.EachPart.{state-forth, readings-forth, readings-good, state-back, readings-back, readings-writable}
 
--- bytes that have both parts at an offset have the one behind the other
+-- bytes that have both parts at an offset have the one after the other
 both-parts : (n m : ℕ) (b : List ℕ) (at : ℕ) → part b at (estimateLength n m) ≡ statePart n b at ++ readingsPart n m b at
 both-parts n m b at =
     take-add (stateLength n) (readingsLength m) (drop at b)

@@ -1,11 +1,11 @@
--- An estimate as bytes: the state's part, and the readings' part behind it.
+-- An estimate as bytes: the state's part, and the readings' part after it.
 use Prim.Native.Nat.{ℕ}
 use mathlib.Core.Bool.{Bool, not, _&&_}
 use mathlib.Core.List.{List, _∷_, _++_}
 use lib.ListN.{take}
 use lib.IntN.{ℤ}
 use Rattle.readings.specs.declared.Readings.{Readings}
-use Rattle.readings.specs.Readings.{strayMark}
+use Rattle.readings.specs.Readings.{markBeyond}
 use Rattle.bytes.specs.Words.{valuesBytes}
 use Rattle.estimate.specs.Marks.{marksByte, absentZero}
 use Rattle.estimate.specs.declared.Estimate.{Estimate}
@@ -24,4 +24,4 @@ estimateBytes n m e = stateBytes n (e .state) ++ readingsBytes m (e .readings)
 
 -- whether readings can be written: "Marks at or above m are 0", values "0 where absent"
 unfoldable pub writable : ℕ → Readings → Bool
-writable m y = not (strayMark m y) && absentZero m y
+writable m y = not (markBeyond m y) && absentZero m y

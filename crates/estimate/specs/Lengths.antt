@@ -10,6 +10,6 @@ stateLength n = valueLength * n
 abbrev pub readingsLength : ℕ → ℕ
 readingsLength m = 1 + valueLength * m
 
--- both, one behind the other
+-- both, one after the other
 abbrev pub estimateLength : ℕ → ℕ → ℕ
 estimateLength n m = stateLength n + readingsLength m

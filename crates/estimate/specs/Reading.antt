@@ -35,7 +35,7 @@ readingsOk m p = marksBelow m (marksAt p) && absentZero m (readingsIn m p)
 abbrev pub statePart : ℕ → List ℕ → ℕ → List ℕ
 statePart n b at = part b at (stateLength n)
 
--- right behind the state's
+-- right after the state's
 abbrev pub readingsPart : ℕ → ℕ → List ℕ → ℕ → List ℕ
 readingsPart n m b at = part b (at + stateLength n) (readingsLength m)
 

@@ -79,7 +79,7 @@ pub fn is_writable(m: usize, y: Readings) -> bool
     requires { ⌜ m ≤ 4 ⌝ }
     ensures { λ r. ⌜ r ≡ writable m y ⌝ }
 {
-    if readings::has_stray_mark(m, y) {
+    if readings::has_mark_beyond(m, y) {
         return false;
     }
     absent_zero(m, y)

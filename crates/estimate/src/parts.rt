@@ -57,7 +57,7 @@ pub fn read_readings(m: usize, part: &[u8]) -> Readings
     Readings { present, values }
 }
 
-// The state's part at an offset, and the readings' part behind it.
+// The state's part at an offset, and the readings' part after it.
 pub fn put_estimate(n: usize, m: usize, estimate: Estimate, area: &mut [u8], at: usize)
     requires { ⌜ (n ≤ 6) × (m ≤ 4) × (at + estimateLength n m ≤ length (now area)) ⌝ }
     ensures { λ _. ⌜ now (area .exit) ≡ put (now (area .entry)) at (estimateBytes n m estimate) ⌝ }
@@ -65,8 +65,8 @@ pub fn put_estimate(n: usize, m: usize, estimate: Estimate, area: &mut [u8], at:
     let state = estimate.state;
     put_values(&state[0..n], area, at);
     let readings = estimate.readings;
-    let behind = at + state_length(n);
-    put_byte(area, behind, marks_byte(readings));
+    let readings_at = at + state_length(n);
+    put_byte(area, readings_at, marks_byte(readings));
     let values = readings.values;
-    put_values(&values[0..m], area, behind + 1);
+    put_values(&values[0..m], area, readings_at + 1);
 }

@@ -67,8 +67,8 @@ module _ (f : Frame) (r : List ℕ) where
         estimate = e;
       }
 
-  behind-header : drop headerLength (header f ++ r) ≡ r
-  behind-header = drop-at (header f) r headerLength (length-header f)
+  after-header : drop headerLength (header f ++ r) ≡ r
+  after-header = drop-at (header f) r headerLength (length-header f)
 
 parts-good : (n m : ℕ) (b : List ℕ) → pairsOk n m b ≡ true → estimateOk n m b partsStart ≡ true → partsOk n m b ≡ true
 unfolding partsOk
@@ -116,7 +116,7 @@ module _ (n m : ℕ) (f : Frame) (t : Typed f) (ok : sizesOk n m ≡ true) (good
   all-length : length (header f ++ rest) ≡ partsStart + estimateLength n m
   all-length = ap length (sym in-two) ∙ length-whole n m f n≤ m≤
 
-  -- the estimate stands behind the pairs
+  -- the estimate stands after the pairs
   there : part (header f ++ rest) partsStart (estimateLength n m) ≡ estimateBytes n m (f .estimate)
   there =
       ap (λ (b : List ℕ). part b partsStart (estimateLength n m)) (sym in-two)
@@ -126,7 +126,7 @@ module _ (n m : ℕ) (f : Frame) (t : Typed f) (ok : sizesOk n m ≡ true) (good
   pair-at : (i x : ℕ) → part rest i 2 ≡ littleEndian 2 x → x < 65536 → numberAt 2 (header f ++ rest) (headerLength + i) ≡ x
   unfolding numberAt
   pair-at i x e h =
-      ap (λ (l : List ℕ). spelled (take 2 l)) (sym (drop-drop i headerLength (header f ++ rest)) ∙ ap (drop i) (behind-header f rest))
+      ap (λ (l : List ℕ). spelled (take 2 l)) (sym (drop-drop i headerLength (header f ++ rest)) ∙ ap (drop i) (after-header f rest))
       ∙ ap spelled e ∙ spelled-littleEndian 2 x h
 
   pairs-forth : Pairs n m (header f ++ rest)

@@ -1,4 +1,4 @@
--- The bytes of a command, what writing it answers, what it writes, and the values in it.
+-- The bytes of a command, what writing it answers, what it writes, and the period and the values in it.
 use Prim.Native.Nat.{ℕ}
 use mathlib.Core.Bool.{Bool, not}
 use mathlib.Core.List.{List, [], _∷_, _++_}
@@ -8,7 +8,7 @@ use lib.Dec.{leb, eqb}
 use Rattle.lists.specs.Choice.{pick}
 use Rattle.lists.specs.Places.{filled}
 use Rattle.lists.specs.Refusals.{refusal, firstOf}
-use Rattle.bytes.specs.Words.{littleEndian, valuesBytes, valueAt}
+use Rattle.bytes.specs.Words.{littleEndian, numberAt, valuesBytes, valueAt}
 use Rattle.frame.specs.Sizes.{commandsOk}
 use Rattle.frame.specs.Lengths.{commandStart, longestCommand}
 
@@ -27,6 +27,10 @@ commandRefusal p area = firstOf (refusal 2 (not (commandsOk p)) ∷ refusal 5 (n
 -- what is written: nothing where the call is refused
 unfoldable pub commandWritten : ℕ → ℕ → List ℤ → List ℕ → List ℕ
 commandWritten p period values area = pick (eqb (commandRefusal p area) 0) (commandBytes p period values) []
+
+-- the period that a command's bytes have, "period at 4" (`period-read` of proofs/Commands.antt: it is the period that was written)
+unfoldable pub commandPeriod : List ℕ → ℕ
+commandPeriod bytes = numberAt 4 bytes 4
 
 -- the values that a command area has room for, "p i32 values from 8"; 0 in every place where the area is too short for a command
 unfoldable pub commandValues : List ℕ → List ℤ

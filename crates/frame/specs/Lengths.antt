@@ -17,7 +17,7 @@ pairLength = 4
 abbrev pub pairStart : ℕ → ℕ
 pairStart j = headerLength + pairLength * j
 
--- where the first part starts, behind the pairs of both
+-- where the first part starts, after the pairs of both
 abbrev pub partsStart : ℕ
 partsStart = pairStart 2
 
@@ -33,6 +33,10 @@ longestFrame = partsStart + estimateLength 6 4
 abbrev pub commandStart : ℕ
 commandStart = 8
 
+-- the length of a command of p values
+abbrev pub commandLength : ℕ → ℕ
+commandLength p = commandStart + valueLength * p
+
 -- a command of 4 values has 24
 abbrev pub longestCommand : ℕ
-longestCommand = commandStart + valueLength * 4
+longestCommand = commandLength 4

@@ -9,4 +9,5 @@ pub mod Fields
 pub mod Reading
 pub mod Writing
 pub mod Command
+pub mod CommandReading
 pub mod Cases

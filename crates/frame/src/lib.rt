@@ -17,7 +17,10 @@ ghost use Rattle.frame.specs.Fields.{blank};
 ghost use Rattle.frame.specs.Reading.{readRefusal, readFrame};
 ghost use Rattle.frame.specs.Writing.{wellFormed, writeRefusal, written};
 ghost use Rattle.frame.specs.Command.{commandRefusal, commandWritten, commandValues};
+ghost use Rattle.frame.specs.CommandReading.{readCommandRefusal, readCommand, noCommand};
 use bytes::values::read_values;
+use command::command_in;
+use command::is_command;
 use command::put_command;
 use estimate::Estimate;
 use estimate::marks::is_writable;
@@ -74,6 +77,18 @@ pub fn number_of(answer: Answer) -> u8
 pub struct Parsed {
     pub answer: Answer,
     pub frame: Frame,
+}
+
+// What the bytes of a command say.
+pub struct CommandFields {
+    pub period: u32,
+    pub values: [i32; 4],
+}
+
+// The command is all 0 where reading is refused.
+pub struct ParsedCommand {
+    pub answer: Answer,
+    pub command: CommandFields,
 }
 
 // The length is 0 where writing is refused.
@@ -233,6 +248,38 @@ pub fn write_command(p: usize, period: u32, values: [i32; 4], area: &mut [u8]) -
     Written {
         answer: Answer::Done,
         length,
+    }
+}
+
+// What a refused reading of a command gives.
+fn refused_command(answer: Answer) -> ParsedCommand
+    ensures { λ r. ⌜ (r .answer ≡ answer) × (r .command ≡ noCommand) ⌝ }
+{
+    let values = [0i32; 4];
+    ParsedCommand {
+        answer,
+        command: CommandFields { period: 0, values },
+    }
+}
+
+// Reads a command of p values.
+pub fn read_command(p: usize, bytes: &[u8]) -> ParsedCommand
+    ensures answer { λ r. ⌜ number (r .answer) ≡ readCommandRefusal p (now (bytes .entry)) ⌝ }
+    ensures command { λ r. ⌜ r .command ≡ readCommand p (now (bytes .entry)) ⌝ }
+{
+    if p < 1 {
+        return refused_command(Answer::Sizes);
+    }
+    if 4 < p {
+        return refused_command(Answer::Sizes);
+    }
+    if !is_command(p, bytes) {
+        return refused_command(Answer::Malformed);
+    }
+    let command = command_in(p, bytes);
+    ParsedCommand {
+        answer: Answer::Done,
+        command,
     }
 }
 

@@ -4,7 +4,7 @@ use mathlib.Core.Logic.{_⊎_, inl, inr}
 use mathlib.Core.Bool.{Bool, true, false}
 use mathlib.Core.List.{List}
 use mathlib.Core.Option.{Option, none, some}
-use Prim.Native.Nat.{ℕ, _<_}
+use Prim.Native.Nat.{ℕ, _≤_, _<_}
 use lib.Dec.{eqb}
 use borrow.Author.Tests.{eqb-true, eqb-false}
 use native.Mathlib.Omega.{arith}
@@ -12,13 +12,14 @@ use lib.ListN.{length}
 use lib.IntN.{ℤ}
 use Rattle.lists.specs.I32.{AllI32}
 use Rattle.readings.specs.declared.Readings.{Readings}
-use Rattle.readings.specs.Readings.{strayMark}
+use Rattle.readings.specs.Readings.{markBeyond}
 use Rattle.scram.specs.Held.{Group, Message, Command, Input, Tick, Arrival, GiveUp}
-use Rattle.scram.specs.Events.{arrival}
+use Rattle.scram.specs.Events.{largest, arrival}
 use Rattle.scram.specs.History.{Result}
 use Rattle.scram.specs.Shown.{Still, inBytes, outcome, Arrives, Sent, Commanded, Does, Shown}
 use Rattle.law.specs.declared.Settings as Law
 use Rattle.law.specs.Settings.{refusal}
+use Rattle.frame.proofs.Commands.{period-read}
 use Rattle.replica.specs.declared.Held.{Held}
 use Rattle.replica.specs.declared.Replica.{Replica}
 use Rattle.replica.specs.Settings.{settingsRefusal, lawOf, memberOf, groupOf}
@@ -72,17 +73,17 @@ module _ (N : ℕ) (law : Law.Settings) where
       abbrev r : Replica
       r = record { settings = settingsOf N law i; held = h }
 
-      abbrev behindChecks : Outcomes → Outcomes
-      behindChecks o = checked r (length (a .frame)) (length (a .command)) o
+      abbrev afterChecks : Outcomes → Outcomes
+      afterChecks o = checked r (length (a .frame)) (length (a .command)) o
 
       -- a call that is not refused for its settings or areas goes on to the step, of a box whose number a frame can carry
-      checked-shows : (o : Outcomes) → (i < 256 → Keeps law o) → Shows r o (behindChecks o)
+      checked-shows : (o : Outcomes) → (i < 256 → Keeps law o) → Shows r o (afterChecks o)
       checked-shows o keeps = by (eqb number 0) refl
         where
           number : ℕ
           number = stepRefusal (r .settings) (length (a .frame)) (length (a .command))
 
-          by : (b : Bool) → eqb number 0 ≡ b → Shows r o (behindChecks o)
+          by : (b : Bool) → eqb number 0 ≡ b → Shows r o (afterChecks o)
           by false n =
               inr (subst (λ p. Still r (resultOf (r .settings) p)) (checked-refused r (length (a .frame)) (length (a .command)) o (eqb-false number 0 n))
               (record { box = refl; refused = refl; frame = refl; command = refl }))
@@ -101,16 +102,16 @@ module _ (N : ℕ) (law : Law.Settings) where
       -- it keeps to the types
       keeps : (x : Input Handed (Message (List ℤ) Readings)) → Typed law (heldIn h) → Arrives (group N law) (Carried law) x → i < 256
           → Keeps law (stepOf h x)
-      keeps (Tick y) t w place = tick-keeps law refuses G i place (heldIn h) (strayMark (law .m) (y .readings)) _ t (row-ok law (y .readings) (y .i32))
+      keeps (Tick y) t w place = tick-keeps law refuses G i place (heldIn h) (markBeyond (law .m) (y .readings)) _ t (row-ok law (y .readings) (y .i32))
       keeps (Arrival m) t w place = arrive-keeps law refuses G i place (heldIn h) m t w
       keeps GiveUp t w place = giveUp-keeps law refuses G i place (heldIn h) t
 
-      -- the call is this step behind the checks; what arrives is read as the message that was sent
+      -- the call is this step after the checks; what arrives is read as the message that was sent
       same : (x : Input Handed (Message (List ℤ) Readings)) (a : Areas) → Arrives (group N law) (Carried law) x
-          → behindChecks h a (stepOf h x) ≡ outcomeOf (r h a) (inBytes (group N law) x) a
+          → afterChecks h a (stepOf h x) ≡ outcomeOf (r h a) (inBytes (group N law) x) a
       unfolding tickOutcome giveUpOutcome arriveOutcome arrival
       same (Tick y) a w = refl
-      same (Arrival m) a w = ap (λ found. behindChecks h a (arrival (lawOf law) G i (heldIn h) found)) (sym (found-sent law refuses m w))
+      same (Arrival m) a w = ap (λ found. afterChecks h a (arrival (lawOf law) G i (heldIn h) found)) (sym (found-sent law refuses m w))
       same GiveUp a w = refl
 
   module _ (start : AllI32 (law .start)) (e : settingsRefusal (settingsOf N law 1) ≡ 0) where
@@ -124,5 +125,13 @@ module _ (N : ℕ) (law : Law.Settings) where
         (subst (Shows i (r i (c .held) a) (stepOf i (c .held) x)) (same i refuses (c .held) x a w)
         (checked-shows i (c .held) a (stepOf i (c .held) x) (keeps i refuses (c .held) x (k .typed) w)))
 
+    read : (c : Command (List ℤ)) → c .period ≤ largest → group N law .commandPeriod (group N law .commandBytes c) ≡ c .period
+    read c h = period-read (law .p) (c .period) (c .values) (omega arith)
+
     pub shown : Shown (group N law) Kept (Carried law) (lawOf law) G
-    shown = record { freshKept = λ i. record { settings = refl; typed = fresh-typed law start }; freshHeld = λ i. refl; calls = calls }
+    shown = record {
+      freshKept = λ i. record { settings = refl; typed = fresh-typed law start };
+      freshHeld = λ i. refl;
+      calls = calls;
+      periodRead = read;
+    }

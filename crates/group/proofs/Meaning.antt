@@ -1,5 +1,4 @@
--- What the history calls a result is what a call leaves: the fresh replica is the one that making gives, and the bytes sent and issued are
--- those at the start of the caller's areas. Assumes nothing.
+-- What the history calls a result is what a call leaves; and its fresh replica is the one that making gives. Assumes nothing.
 use mathlib.Core.Path.{_≡_, sym, ap, _∙_}
 use mathlib.Core.List.{List}
 use Prim.Native.Nat.{ℕ, _≤_}
@@ -11,13 +10,13 @@ use Rattle.law.specs.declared.Settings as Law
 use Rattle.law.proofs.Lent.{refusal-first}
 use Rattle.bytes.specs.Areas.{over}
 use Rattle.bytes.proofs.Areas.{over-first}
-use Rattle.replica.specs.declared.Settings.{Settings}
-use Rattle.replica.specs.declared.Stepped.{Stepped}
 use Rattle.replica.specs.Settings.{badGroup, settingsRefusal}
-use Rattle.replica.specs.Calls.{Outcomes, Gives, made}
+use Rattle.replica.specs.Calls.{made}
 use Rattle.replica.proofs.Accepted.{accepted}
 use Rattle.replica.proofs.Calls.{made-done}
-use Rattle.group.specs.Group.{settingsOf, resultOf, group}
+use Rattle.scram.specs.Shown.{isRefused}
+use Rattle.group.specs.Group.{settingsOf, group}
+use Rattle.group.specs.Meaning.{Written, Meaning}
 
 module _ (N : ℕ) (law : Law.Settings) (e : settingsRefusal (settingsOf N law 1) ≡ 0) (i : ℕ) (from1 : 1 ≤ i) (most : i ≤ N) where
   -- settings accepted for box 1 are accepted for each box of the group
@@ -30,13 +29,17 @@ module _ (N : ℕ) (law : Law.Settings) (e : settingsRefusal (settingsOf N law 1
   pub fresh-made : group N law .fresh i ≡ made (settingsOf N law i)
   fresh-made = sym (made-done (settingsOf N law i) accepted-each .1)
 
--- the first n bytes of an area, n being the length of what was written to its start
-first-written : (n : ℕ) (written area area′ : List ℕ) → n ≡ length written → area′ ≡ over written area → take n area′ ≡ written
-first-written n written area area′ q z = ap (λ k. take k area′) q ∙ ap (take (length written)) z ∙ over-first written area
+written : (bytes : List ℕ) (count : ℕ) (area area′ : List ℕ) → count ≡ length bytes → area′ ≡ over bytes area → Written bytes count area area′
+written bytes count area area′ q z = record {
+  number = q;
+  first = ap (λ k. take k area′) q ∙ ap (take (length bytes)) z ∙ over-first bytes area;
+  whole = z;
+}
 
-module _ {s : Settings} {o : Outcomes} {r : Stepped} {frame frame′ command command′ : List ℕ} (g : Gives s o r frame frame′ command command′) where
-  pub frame-written : take (r .frame) frame′ ≡ resultOf s o .frame
-  frame-written = first-written (r .frame) (resultOf s o .frame) frame frame′ (g .frame-length) (g .frame-bytes)
-
-  pub command-written : take (r .command) command′ ≡ resultOf s o .command
-  command-written = first-written (r .command) (resultOf s o .command) command command′ (g .command-length) (g .command-bytes)
+pub meaning : Meaning
+meaning N law r x a s frame′ command′ g = record {
+  replica = g .replica;
+  refused = ap isRefused (g .answer);
+  frame-written = written _ (s .frame) (a .frame) frame′ (g .frame-length) (g .frame-bytes);
+  command-written = written _ (s .command) (a .command) command′ (g .command-length) (g .command-bytes);
+}

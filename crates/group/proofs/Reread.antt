@@ -13,7 +13,7 @@ use lib.IntN.{ℤ, pos}
 use borrow.Author.Tests.{eq-eqb}
 use Rattle.lists.specs.Choice.{pick}
 use Rattle.lists.specs.Places.{entry}
-use Rattle.lists.proofs.Places.{filled-at, filled-behind, filled-length}
+use Rattle.lists.proofs.Places.{filled-at, filled-beyond, filled-length}
 use Rattle.readings.specs.declared.Readings.{Readings}
 use Rattle.readings.proofs.Normalised.{normalised-twice, normalised-none, normalised-marks, normalised-values}
 use Rattle.scram.specs.declared.Kind.{Kind}
@@ -64,13 +64,13 @@ parts-or-none law Kind.Estimate x o = inl (kinds-parts .3)
 
 -- six places with 0 beyond n are what their first n places give
 first-states : (n : ℕ) (x : List ℤ) → length x ≡ 6 → ((i : ℕ) → n ≤ i → entry x i ≡ pos 0) → firstStates n x ≡ x
-first-states n x six behind =
+first-states n x six beyond =
     ext-getD (pos 0) (firstStates n x) x (filled-length (pos 0) 6 n (entry x) ∙ sym six)
     (λ i l. at i (let e = filled-length (pos 0) 6 n (entry x) in omega arith) (decLt i n))
   where
     at : (i : ℕ) → i < 6 → Dec (i < n) → entry (firstStates n x) i ≡ entry x i
     at i l (yes h) = filled-at (pos 0) 6 n i (entry x) h l
-    at i l (no h) = filled-behind (pos 0) 6 n i (entry x) (omega arith) ∙ sym (behind i (omega arith))
+    at i l (no h) = filled-beyond (pos 0) 6 n i (entry x) (omega arith) ∙ sym (beyond i (omega arith))
 
 -- ---- messages
 
@@ -102,7 +102,7 @@ module _ (law : Law.Settings) (e : refusal law ≡ 0) (m : Message (List ℤ) Re
           → Fields.carried (law .n) (law .m) f ≡ f
       by (inl q) =
           parts-carried (law .n) (law .m) f q
-          (carried-whole (law .n) (law .m) (f .estimate) (first-states (law .n) (m .estimate .state) (c .estimate .state .six) (c .estimate .state .behind))
+          (carried-whole (law .n) (law .m) (f .estimate) (first-states (law .n) (m .estimate .state) (c .estimate .state .six) (c .estimate .state .beyond))
           (normalised-twice (law .m) (m .estimate .readings)))
       by (inr (q, z)) =
           no-parts-carried (law .n) (law .m) f q

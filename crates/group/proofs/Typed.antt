@@ -14,20 +14,20 @@ use Rattle.lists.specs.I32.{AllI32}
 use Rattle.lists.specs.Places.{entry}
 use Rattle.lists.proofs.Booleans.{nand-right}
 use Rattle.lists.proofs.Choice.{pick-ok}
-use Rattle.lists.proofs.Places.{filled-behind, filled-length, filled-each, blank-at}
+use Rattle.lists.proofs.Places.{filled-beyond, filled-length, filled-each, blank-at}
 use Rattle.readings.specs.declared.Readings.{Readings}
 use Rattle.readings.specs.Readings.{normalised}
 use Rattle.readings.proofs.Normalised.{normalised-twice, normalised-each, normalised-none}
 use Rattle.scram.specs.declared.Kind.{Kind}
 use Rattle.scram.specs.declared.Kind.the-variants as Kind
-use Rattle.scram.specs.declared.Answer.{Answer}
+use Rattle.scram.specs.Answers.{Answered}
 use Rattle.scram.specs.Held.{Group, Estimate, Best, Held, Message, Command, noEstimate, fresh}
 use Rattle.scram.specs.Events.{largest, lastView, better, estimateOf, entered, hearing, nextState, ticked, adopting}
 use Rattle.scram.specs.Events.{propose, raise, afterTick, tick, giveUp, hearAck, hearEstimate, receive, arrive}
 use Rattle.law.specs.declared.Settings as Law
 use Rattle.law.specs.Settings.{refusal}
 use Rattle.law.specs.Law.{updated}
-use Rattle.law.proofs.Laws.{updated-length, updated-fits, updated-behind}
+use Rattle.law.proofs.Laws.{updated-length, updated-fits, updated-beyond}
 use Rattle.estimate.specs.Fields.{firstStates}
 use Rattle.replica.specs.Settings.{lawOf}
 use Rattle.replica.specs.Calls.{Outcomes}
@@ -66,7 +66,7 @@ module _ (law : Law.Settings) where
   pub record StateOk (x : List ℤ) : Type 0 where
     pub six : length x ≡ 6
     pub i32 : AllI32 x
-    pub behind : (i : ℕ) → law .n ≤ i → entry x i ≡ pos 0
+    pub beyond : (i : ℕ) → law .n ≤ i → entry x i ≡ pos 0
 
   -- readings as steps hold and frames carry them
   pub record RowOk (y : Readings) : Type 0 where
@@ -80,7 +80,7 @@ module _ (law : Law.Settings) where
 
   none-ok : EstimateOk (noEstimate (lawOf law))
   none-ok = record {
-    state = record { six = refl; i32 = λ i. subst (SFits w32) (sym (blank-at (pos 0) 6 i)) zero-fits; behind = λ i _. blank-at (pos 0) 6 i };
+    state = record { six = refl; i32 = λ i. subst (SFits w32) (sym (blank-at (pos 0) 6 i)) zero-fits; beyond = λ i _. blank-at (pos 0) 6 i };
     readings = record { i32 = λ i. subst (SFits w32) (sym (blank-at (pos 0) 4 i)) zero-fits; row = normalised-none (law .m) };
   }
 
@@ -88,11 +88,11 @@ module _ (law : Law.Settings) where
   start-ok h = record {
     six = filled-length (pos 0) 6 (law .n) (entry (law .start));
     i32 = filled-each (pos 0) (SFits w32) 6 (law .n) (entry (law .start)) zero-fits h;
-    behind = λ i l. filled-behind (pos 0) 6 (law .n) i (entry (law .start)) l;
+    beyond = λ i l. filled-beyond (pos 0) 6 (law .n) i (entry (law .start)) l;
   }
 
   updated-ok : refusal law ≡ 0 → (x : List ℤ) (y : Readings) → StateOk x → StateOk (updated law x y)
-  updated-ok e x y o = record { six = updated-length law x y (o .six); i32 = updated-fits law x y (o .i32); behind = updated-behind law x y e }
+  updated-ok e x y o = record { six = updated-length law x y (o .six); i32 = updated-fits law x y (o .i32); beyond = updated-beyond law x y e }
 
   pub row-ok : (y : Readings) → AllI32 (y .values) → RowOk (normalised (law .m) y)
   row-ok y h = record { i32 = normalised-each (law .m) y (SFits w32) zero-fits h; row = normalised-twice (law .m) y }
@@ -129,7 +129,7 @@ module _ (law : Law.Settings) where
     pub typed : Typed (o .held)
     pub sent : CarriedSent (o .sent)
 
-  sends-nothing : {answer : Answer} {h : Held (List ℤ) Readings} {c : Option (Command (List ℤ))} → Typed h
+  sends-nothing : {answer : Answered} {h : Held (List ℤ) Readings} {c : Option (Command (List ℤ))} → Typed h
       → Keeps (record { answer = answer; held = h; sent = none; command = c })
   sends-nothing t = record { typed = t; sent = tt }
 
@@ -179,9 +179,9 @@ module _ (law : Law.Settings) where
           sent = record { sender = place; counters = in-view (t .counters) l; estimate = t .estimate; kind = tt };
         })
 
-    pub tick-keeps : (h : Held (List ℤ) Readings) (stray : Bool) (y : Readings) → Typed h → RowOk y → Keeps (tick (lawOf law) group own h stray y)
+    pub tick-keeps : (h : Held (List ℤ) Readings) (beyond : Bool) (y : Readings) → Typed h → RowOk y → Keeps (tick (lawOf law) group own h beyond y)
     unfolding tick afterTick
-    tick-keeps h stray y t o =
+    tick-keeps h beyond y t o =
         pick-ok Keeps _ _ _ (λ _. sends-nothing t)
         (λ a. pick-ok Keeps _ _ _ (λ _. sends-nothing t)
         (λ _. pick-ok Keeps _ _ _ (λ _. sends-nothing t)

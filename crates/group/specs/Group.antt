@@ -7,11 +7,12 @@ use lib.ListN.{length}
 use lib.IntN.{ℤ}
 use Rattle.lists.specs.I32.{AllI32}
 use Rattle.readings.specs.declared.Readings.{Readings}
-use Rattle.readings.specs.Readings.{normalised, strayMark}
+use Rattle.readings.specs.Readings.{normalised, markBeyond}
 use Rattle.scram.specs.Held.{Input, Tick, Arrival, GiveUp}
 use Rattle.scram.specs.History.{Result, System}
 use Rattle.scram.specs.Shown.{isRefused}
 use Rattle.law.specs.declared.Settings as Law
+use Rattle.frame.specs.Command.{commandPeriod}
 use Rattle.replica.specs.declared.Settings.{Settings}
 use Rattle.replica.specs.declared.Replica.{Replica}
 use Rattle.replica.specs.Held.{heldIn, heldOf}
@@ -60,7 +61,8 @@ module _ (N : ℕ) (law : Law.Settings) where
     call = λ r e a. resultOf (r .settings) (outcomeOf r e a);
     held = λ r. heldIn (r .held);
     row = λ y. normalised (law .m) (y .readings);
-    stray = λ y. strayMark (law .m) (y .readings);
+    beyond = λ y. markBeyond (law .m) (y .readings);
     frameBytes = λ m. sentBytes (law .n) (law .m) (some m);
     commandBytes = λ c. issuedBytes (law .p) (some c);
+    commandPeriod = commandPeriod;
   }

@@ -1,3 +1,4 @@
--- The definitions, in the order to read: a group of replicas, and demand 3 for it.
+-- The definitions, in the order to read: a group of replicas, what its results mean, and demand 3 for it.
 pub mod Group
+pub mod Meaning
 pub mod Demand3

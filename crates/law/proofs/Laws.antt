@@ -11,7 +11,7 @@ use borrow.Author.Tests.{eqb-true, eq-eqb, ne-eqb}
 use Rattle.lists.specs.I32.{AllI32}
 use Rattle.lists.specs.Places.{entry, filled}
 use Rattle.lists.proofs.Choice.{pick-holds, pick-true, pick-false, pick-same}
-use Rattle.lists.proofs.Places.{filled-length, filled-behind, filled-each}
+use Rattle.lists.proofs.Places.{filled-length, filled-beyond, filled-each}
 use Rattle.readings.specs.declared.Readings.{Readings}
 use Rattle.readings.specs.Readings.{normalised}
 use Rattle.law.specs.declared.Settings.{Settings}
@@ -47,8 +47,8 @@ module _ (s : Settings) (x : List ℤ) (y : Readings) where
   updated-fits h = pick-holds AllI32 (stands s) _ x (λ _. filled-each (pos 0) (SFits w32) 6 (s .n) _ zero-fits (λ i. clamp-fits _)) (λ _. h)
 
   -- the places beyond n hold 0
-  pub updated-behind : refusal s ≡ 0 → (i : ℕ) → s .n ≤ i → entry (updated s x y) i ≡ pos 0
-  updated-behind h i l = ap (λ (v : List ℤ). entry v i) (sym (updated-accepted h)) ∙ filled-behind (pos 0) 6 (s .n) i _ l
+  pub updated-beyond : refusal s ≡ 0 → (i : ℕ) → s .n ≤ i → entry (updated s x y) i ≡ pos 0
+  updated-beyond h i l = ap (λ (v : List ℤ). entry v i) (sym (updated-accepted h)) ∙ filled-beyond (pos 0) 6 (s .n) i _ l
 
   -- readings are looked at as `normalised` has them: marks below m, 0 where absent
   pub updated-normalised : updated s x (normalised (s .m) y) ≡ updated s x y

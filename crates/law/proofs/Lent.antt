@@ -27,7 +27,7 @@ module _ (s : Settings) where
   unfolding issued commanded updated refusal refusals
   issued-lent x y = refl
 
-  -- the law's refusals, behind others
+  -- the law's refusals, after others
   pub refusal-first : firstOf (refusals s) ≡ refusal s
   unfolding refusal
   refusal-first = refl

@@ -10,7 +10,7 @@ use lib.Seq.{drop-cons, drop-length, take-suc, getD-drop}
 use borrow.Author.Tests.{eq-eqb, ne-eqb}
 use Rattle.lists.specs.Choice.{pick}
 use Rattle.lists.proofs.Choice.{pick-ok}
-use Rattle.line.specs.Fields.{oneMore, spaces, oneLess, behindSpaces, upToSpace}
+use Rattle.line.specs.Fields.{oneMore, spaces, oneLess, afterSpaces, upToSpace}
 
 pub spaces-none : (line : List ℕ) → 0 ≡ spaces (drop (length line) line)
 unfolding spaces
@@ -26,20 +26,20 @@ unfolding oneMore
 one-more-le b n = pick-ok (λ (k : ℕ). k ≤ suc n) (eqb b 32) (suc n) n (λ _. omega arith) (λ _. omega arith)
 
 -- a byte before the field that is looked for
-pub behind-more : (line : List ℕ) (i left : ℕ) → i < length line → (left ≡ 0 → ⊥)
-    → behindSpaces (drop i line) left ≡ behindSpaces (drop (i + 1) line) (oneLess (getD line i 0) left)
-unfolding behindSpaces
-behind-more line i zero h n = absurd (n refl)
-behind-more line i (suc k) h n = rw (add-one, drop-cons line i 0 h)
+pub after-more : (line : List ℕ) (i left : ℕ) → i < length line → (left ≡ 0 → ⊥)
+    → afterSpaces (drop i line) left ≡ afterSpaces (drop (i + 1) line) (oneLess (getD line i 0) left)
+unfolding afterSpaces
+after-more line i zero h n = absurd (n refl)
+after-more line i (suc k) h n = rw (add-one, drop-cons line i 0 h)
 
-pub behind-found : (bytes : List ℕ) → behindSpaces bytes 0 ≡ bytes
-unfolding behindSpaces
-behind-found [] = refl
-behind-found (b ∷ bs) = refl
+pub after-found : (bytes : List ℕ) → afterSpaces bytes 0 ≡ bytes
+unfolding afterSpaces
+after-found [] = refl
+after-found (b ∷ bs) = refl
 
-pub behind-none : (k : ℕ) → behindSpaces [] k ≡ []
-unfolding behindSpaces
-behind-none k = refl
+pub after-none : (k : ℕ) → afterSpaces [] k ≡ []
+unfolding afterSpaces
+after-none k = refl
 
 -- a byte of a field
 pub field-more : (line : List ℕ) (from i : ℕ) → from ≤ i → i < length line → (getD line i 0 ≡ 32 → ⊥)
@@ -52,7 +52,7 @@ field-more line from i f h n =
     rw (d, take-suc (drop from line) (i - from) 0 l, getD-drop, at, drop-cons line i 0 h, ne-eqb _ _ n, add-one) (sym (append-assoc (take (i - from)
     (drop from line)) _ _))
 
--- the space behind a field
+-- the space after a field
 pub field-ends : (line : List ℕ) (i : ℕ) → i < length line → getD line i 0 ≡ 32 → upToSpace (drop i line) ≡ []
 unfolding upToSpace pick
 field-ends line i h e = rw (drop-cons line i 0 h, eq-eqb _ _ e)

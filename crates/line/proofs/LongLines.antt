@@ -19,9 +19,9 @@ use Rattle.line.specs.declared.events.Event.{Event}
 use Rattle.line.specs.declared.events.Event.the-variants.{Bad}
 use Rattle.line.specs.declared.events.Called.{Called}
 use Rattle.text.specs.Numbers.{numberOf, counted, isWhole}
-use Rattle.line.specs.Fields.{oneMore, spaces, oneLess, behindSpaces, upToSpace, field}
+use Rattle.line.specs.Fields.{oneMore, spaces, oneLess, afterSpaces, upToSpace, field}
 use Rattle.line.specs.Events.{letterOf, boxOf, isReading, allReadings, tickCalled, giveUpCalled, deliveryCalled, calledFor, called}
-use Rattle.line.proofs.FieldLaws.{behind-found}
+use Rattle.line.proofs.FieldLaws.{after-found}
 use Rattle.text.proofs.PrintingLengths.{signed-length}
 use Rattle.text.proofs.RoundTrip.{printed-reads}
 
@@ -33,11 +33,11 @@ module _ (b : ℕ) (bs : List ℕ) where
   space-count e = rw e
 
   space-first : eqb b 32 ≡ true → field 0 (b ∷ bs) ≡ []
-  unfolding field behindSpaces upToSpace pick
+  unfolding field afterSpaces upToSpace pick
   space-first e = rw e
 
   space-next : (j : ℕ) → eqb b 32 ≡ true → field (suc j) (b ∷ bs) ≡ field j bs
-  unfolding field behindSpaces oneLess pick
+  unfolding field afterSpaces oneLess pick
   space-next j e = let p : suc j - 1 ≡ j = omega arith in rw (e, p)
 
   other-count : eqb b 32 ≡ false → spaces (b ∷ bs) ≡ spaces bs
@@ -45,14 +45,14 @@ module _ (b : ℕ) (bs : List ℕ) where
   other-count e = rw e
 
   other-first : eqb b 32 ≡ false → field 0 (b ∷ bs) ≡ b ∷ field 0 bs
-  unfolding field behindSpaces upToSpace pick
-  other-first e = rw (e, behind-found bs)
+  unfolding field afterSpaces upToSpace pick
+  other-first e = rw (e, after-found bs)
 
   other-next : (j : ℕ) → eqb b 32 ≡ false → field (suc j) (b ∷ bs) ≡ field (suc j) bs
-  unfolding field behindSpaces oneLess pick
+  unfolding field afterSpaces oneLess pick
   other-next j e = rw e
 
--- fields of at most 11 bytes, the first of which stands behind a bytes
+-- fields of at most 11 bytes, the first of which stands after a bytes
 pub narrow : (line : List ℕ) (a : ℕ) → a + length (field 0 line) ≤ 11 → ((j : ℕ) → j < spaces line → length (field (suc j) line) ≤ 11)
     → a + length line ≤ 12 * spaces line + 11
 narrow [] a first others = omega arith

@@ -18,7 +18,7 @@ use Rattle.line.specs.declared.events.Row.{Row}
 use Rattle.line.specs.Fields.{field}
 use Rattle.line.specs.Events.{isReading, allReadings, rowOf, readWith}
 
--- one reading more; behind the places there is none
+-- one reading more; after the places there is none
 set-more : {A : Type 0} (blank : A) (width j : ℕ) (f : ℕ → A) → set (filled blank width j f) j (f j) ≡ filled blank width (j + 1) f
 set-more blank width j f = by (decLe (suc j) width)
   where

@@ -17,11 +17,11 @@ spaces (b ∷ bs) = oneMore b (spaces bs)
 unfoldable pub oneLess : ℕ → ℕ → ℕ
 oneLess b k = pick (eqb b 32) (k - 1) k
 
--- what stands behind the first k spaces, nothing where there are fewer
-unfoldable pub behindSpaces : List ℕ → ℕ → List ℕ
-behindSpaces [] k = []
-behindSpaces (b ∷ bs) zero = b ∷ bs
-behindSpaces (b ∷ bs) (suc k) = behindSpaces bs (oneLess b (suc k))
+-- what stands after the first k spaces, nothing where there are fewer
+unfoldable pub afterSpaces : List ℕ → ℕ → List ℕ
+afterSpaces [] k = []
+afterSpaces (b ∷ bs) zero = b ∷ bs
+afterSpaces (b ∷ bs) (suc k) = afterSpaces bs (oneLess b (suc k))
 
 -- what stands before the first space
 unfoldable pub upToSpace : List ℕ → List ℕ
@@ -30,4 +30,4 @@ upToSpace (b ∷ bs) = pick (eqb b 32) [] (b ∷ upToSpace bs)
 
 -- field k of a line, empty where the line has fewer
 unfoldable pub field : ℕ → List ℕ → List ℕ
-field k line = upToSpace (behindSpaces line k)
+field k line = upToSpace (afterSpaces line k)

@@ -2,7 +2,7 @@
 ghost use mathlib.Core.Path.{_≡_};
 ghost use Prim.Native.Nat.{_-_, _≤_};
 ghost use lib.ListN.{length, take, drop};
-ghost use Rattle.line.specs.Fields.{oneMore, spaces, oneLess, behindSpaces, upToSpace, field as Fields·field};
+ghost use Rattle.line.specs.Fields.{oneMore, spaces, oneLess, afterSpaces, upToSpace, field as Fields·field};
 
 fn one_more(n: usize, b: u8) -> usize
     requires { ⌜ n ≤ 9223372036854775807 ⌝ }
@@ -33,7 +33,7 @@ fn one_less(k: usize, b: u8) -> usize
 
 // Where the field with k spaces before it starts.
 fn field_start(line: &[u8], k: usize) -> usize
-    ensures { λ r. ⌜ (r ≤ length (now (line .entry))) × (drop r (now (line .entry)) ≡ behindSpaces (now (line .entry)) k) ⌝ }
+    ensures { λ r. ⌜ (r ≤ length (now (line .entry))) × (drop r (now (line .entry)) ≡ afterSpaces (now (line .entry)) k) ⌝ }
 {
     let mut left = k;
     let mut i = 0;

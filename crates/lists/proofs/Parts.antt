@@ -1,4 +1,4 @@
--- Laws of parts of a list: what lies behind an offset, and the first places. Assumes nothing.
+-- Laws of parts of a list: what lies after an offset, and the first places. Assumes nothing.
 use mathlib.Core.Path.{_≡_, refl, sym, _∙_}
 use mathlib.Core.List.{List, [], _∷_}
 use Prim.Native.Nat.{ℕ, zero, suc, _-_, _≤_}
@@ -8,7 +8,7 @@ use lib.ListN.{length, take, drop, getD, length-drop}
 use lib.Seq.{take-all, take-nil}
 
 module _ {A : Type 0} where
-  -- nothing lies behind the end
+  -- nothing lies after the end
   pub drop-beyond : (xs : List A) (a : ℕ) → length xs ≤ a → drop a xs ≡ []
   drop-beyond [] zero h = refl
   drop-beyond [] (suc a) h = refl
@@ -23,8 +23,8 @@ module _ {A : Type 0} where
   to-the-end xs a = take-all (length xs - a) (drop a xs) (simp length-drop (omega arith))
 
   -- the same where no more is asked for than there is
-  pub bytes-behind : (xs : List A) (a size : ℕ) → length xs - a ≤ size → take (length xs - a) (drop a xs) ≡ take size (drop a xs)
-  bytes-behind xs a size h = to-the-end xs a ∙ sym (take-all size (drop a xs) (simp length-drop (omega arith)))
+  pub bytes-after : (xs : List A) (a size : ℕ) → length xs - a ≤ size → take (length xs - a) (drop a xs) ≡ take size (drop a xs)
+  bytes-after xs a size h = to-the-end xs a ∙ sym (take-all size (drop a xs) (simp length-drop (omega arith)))
 
   -- `&values[0..r]`, r being n or, where that is less, the number of places
   pub first-in-use : (values : List A) (places n r : ℕ) → length values ≡ places → (n ≤ places → r ≡ n) → (places ≤ n → r ≡ places)

@@ -39,12 +39,12 @@ module _ {ℓ} {A : Type ℓ} (blank : A) where
   blank-at (suc width) (suc i) = blank-at width i
 
   -- a place that is not in use
-  pub filled-behind : (width n i : ℕ) (f : ℕ → A) → n ≤ i → getD (filled blank width n f) i blank ≡ blank
+  pub filled-beyond : (width n i : ℕ) (f : ℕ → A) → n ≤ i → getD (filled blank width n f) i blank ≡ blank
   unfolding filled
-  filled-behind zero n i f l = refl
-  filled-behind (suc width) zero i f l = blank-at (suc width) i
-  filled-behind (suc width) (suc n) zero f l = absurd (not-suc-le-zero l)
-  filled-behind (suc width) (suc n) (suc i) f l = filled-behind width n i (λ k. f (suc k)) (le-of-suc-le-suc l)
+  filled-beyond zero n i f l = refl
+  filled-beyond (suc width) zero i f l = blank-at (suc width) i
+  filled-beyond (suc width) (suc n) zero f l = absurd (not-suc-le-zero l)
+  filled-beyond (suc width) (suc n) (suc i) f l = filled-beyond width n i (λ k. f (suc k)) (le-of-suc-le-suc l)
 
   -- a place that is in use
   pub filled-at : (width n i : ℕ) (f : ℕ → A) → i < n → i < width → getD (filled blank width n f) i blank ≡ f i

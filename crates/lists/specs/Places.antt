@@ -4,7 +4,7 @@ use mathlib.Core.List.{List, [], _∷_}
 use lib.ListN.{getD, replicate}
 use lib.IntN.{ℤ, pos}
 
--- what stands at place i, counted from 0; 0 behind the end
+-- what stands at place i, counted from 0; 0 after the end
 abbrev pub entry : List ℤ → ℕ → ℤ
 entry xs i = getD xs i (pos 0)
 

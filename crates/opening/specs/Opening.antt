@@ -68,7 +68,7 @@ startsOf n m p = record {
 unfoldable pub allNumbers : ℕ → List ℕ → Bool
 allNumbers count line = allBelow count (λ j. isWhole (numberOf (field (j + 5) line)))
 
--- so many numbers stand behind the sizes, and nothing else
+-- so many numbers stand after the sizes, and nothing else
 unfoldable pub numbered : ℕ → List ℕ → Bool
 numbered count line = eqb (spaces line) (count + 4) && allNumbers count line
 
@@ -97,8 +97,8 @@ lawIn line n m p at = record {
 }
 
 -- a group that is not there
-abbrev pub shut : Opening → Opened
-shut opening = record { opening = opening; settings = blankSettings }
+abbrev pub unopened : Opening → Opened
+unopened opening = record { opening = opening; settings = blankSettings }
 
 -- a group of this size, with the settings of its box 1
 abbrev pub openedAs : Sizes → Law.Settings → Opened
@@ -106,12 +106,12 @@ openedAs s law = record { opening = Ready; settings = record { boxes = s .boxes;
 
 -- the group of a line whose sizes are in range
 unfoldable pub openedWith : List ℕ → Sizes → Starts → Opened
-openedWith line s at = pick (numbered (at .count) line) (openedAs s (lawIn line (s .n) (s .m) (s .p) at)) (shut Bad)
+openedWith line s at = pick (numbered (at .count) line) (openedAs s (lawIn line (s .n) (s .m) (s .p) at)) (unopened Bad)
 
 -- "Where refusal 1 or 2 would refuse N, n, m or p, it prints `r1` or `r2` alone, whatever follows on that line; else a line not of this form
 -- prints `bad` alone"
 unfoldable pub openedBy : List ℕ → Sizes → Opened
 openedBy line s =
     pick (begun (field 0 line) s)
-    (pick (eqb (sizesRefusal s) 0) (openedWith line s (startsOf (s .n) (s .m) (s .p))) (shut (Refused (sizesRefusal s))))
-    (shut Bad)
+    (pick (eqb (sizesRefusal s) 0) (openedWith line s (startsOf (s .n) (s .m) (s .p))) (unopened (Refused (sizesRefusal s))))
+    (unopened Bad)

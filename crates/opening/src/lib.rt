@@ -1,11 +1,13 @@
 // The first line of `rig`: the sizes of a group, its tables, limits and start.
+pub mod wrong;
+
 ghost use mathlib.Core.Path.{_≡_};
 ghost use Prim.Native.Nat.{_*_, _<_, _≤_};
 ghost use lib.ListN.{length, replicate};
 ghost use lib.IntN.{pos};
 ghost use Rattle.text.specs.Numbers.{numberOf};
 ghost use Rattle.opening.specs.Opening.{sizeIn, sizesIn, isRig, begun, fromOne, sizesRefusal, startsOf, allNumbers, numbered, entryOf, tableOf, lawIn, openedBy};
-ghost use Rattle.opening.specs.Opening.{shut as Opening·shut};
+ghost use Rattle.opening.specs.Opening.{unopened as Opening·unopened};
 use line::fields::count_spaces;
 use line::fields::field;
 use replica::Settings;
@@ -29,7 +31,7 @@ struct Sizes {
     p: usize,
 }
 
-// The fields at which L, C, K, the limits and the start begin, behind A, and how many numbers there are.
+// The fields at which L, C, K, the limits and the start begin, after A, and how many numbers there are.
 struct Starts {
     l: usize,
     c: usize,
@@ -182,7 +184,7 @@ fn all_numbers(line: &[u8], count: usize) -> bool
     true
 }
 
-// Whether so many numbers stand behind the sizes, and nothing else.
+// Whether so many numbers stand after the sizes, and nothing else.
 fn is_numbered(line: &[u8], count: usize) -> bool
     requires { ⌜ count ≤ 200 ⌝ }
     ensures { λ r. ⌜ r ≡ numbered count (now (line .entry)) ⌝ }
@@ -256,8 +258,8 @@ fn law_in(line: &[u8], n: usize, m: usize, p: usize, at: Starts) -> law::Setting
 }
 
 // Nothing is opened.
-fn shut(opening: Opening) -> Opened
-    ensures { λ r. ⌜ r ≡ Opening·shut opening ⌝ }
+fn unopened(opening: Opening) -> Opened
+    ensures { λ r. ⌜ r ≡ Opening·unopened opening ⌝ }
 {
     let law = law::Settings {
         n: 0,
@@ -285,18 +287,18 @@ pub fn open(line: &[u8]) -> Opened
 {
     let s = sizes_in(line);
     if !has_begun(field(line, 0), s) {
-        return shut(Opening::Bad);
+        return unopened(Opening::Bad);
     }
     let number = sizes_refusal(s);
     if number != 0 {
-        return shut(Opening::Refused(number));
+        return unopened(Opening::Refused(number));
     }
     let n = s.n;
     let m = s.m;
     let p = s.p;
     let at = starts_of(n, m, p);
     if !is_numbered(line, at.count) {
-        return shut(Opening::Bad);
+        return unopened(Opening::Bad);
     }
     let law = law_in(line, n, m, p, at);
     let settings = Settings {

@@ -73,7 +73,7 @@ fn last_sent(before: usize, size: usize) -> usize {
     if size == 0 { before } else { size }
 }
 
-// Each of the others gets the Propose, and the first its Ack; the Acks behind the deciding one are ignored.
+// Each of the others gets the Propose, and the first its Ack; the Acks after the deciding one are ignored.
 fn hear_all(
     replicas: [Replica; 9],
     proposed: &[u8; LONGEST_FRAME],

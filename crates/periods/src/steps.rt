@@ -1,4 +1,4 @@
-// The calls whose instructions are counted, each behind a function that callgrind has by name.
+// The calls whose instructions are counted, each in a function of its own, which callgrind has by name.
 use crate::boxes::row;
 use frame::lengths::LONGEST_COMMAND;
 use frame::lengths::LONGEST_FRAME;

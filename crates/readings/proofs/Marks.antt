@@ -14,9 +14,9 @@ module _ (marks : List Bool) (j : ℕ) (h : j < length marks) where
   unfolding anyMark
   mark-here e = rw (drop-cons marks j false h, e)
 
-  pub mark-behind : getD marks j false ≡ false → anyMark (drop j marks) ≡ anyMark (drop (j + 1) marks)
+  pub mark-after : getD marks j false ≡ false → anyMark (drop j marks) ≡ anyMark (drop (j + 1) marks)
   unfolding anyMark
-  mark-behind e = rw (add-one, drop-cons marks j false h, e)
+  mark-after e = rw (add-one, drop-cons marks j false h, e)
 
 any-nil : (j : ℕ) → anyMark (drop j []) ≡ false
 unfolding anyMark

@@ -30,5 +30,5 @@ anyMark [] = false
 anyMark (b ∷ bs) = b || anyMark bs
 
 -- "a present mark at or above m"
-unfoldable pub strayMark : ℕ → Readings → Bool
-strayMark m y = anyMark (drop m (y .present))
+unfoldable pub markBeyond : ℕ → Readings → Bool
+markBeyond m y = anyMark (drop m (y .present))

@@ -3,7 +3,7 @@ ghost use mathlib.Core.Path.{_≡_};
 ghost use Prim.Native.Nat.{_≤_};
 ghost use lib.IntN.{pos};
 ghost use Rattle.lists.specs.Choice.{pick};
-ghost use Rattle.readings.specs.Readings.{normalised, noReadings, strayMark};
+ghost use Rattle.readings.specs.Readings.{normalised, noReadings, markBeyond};
 
 // Place j holds the present mark and the value of reading j, counted from 0.
 pub struct Readings {
@@ -35,7 +35,7 @@ fn in_use(m: usize) -> usize
     if m < 4 { m } else { 4 }
 }
 
-// The first m readings as the law reads them; the places behind are absent.
+// The first m readings as the law reads them; the places after are absent.
 pub fn normalise(m: usize, y: Readings) -> Readings
     ensures { λ r. ⌜ r ≡ normalised m y ⌝ }
 {
@@ -56,8 +56,8 @@ pub fn normalise(m: usize, y: Readings) -> Readings
 }
 
 // Whether there is a present mark at or above m.
-pub fn has_stray_mark(m: usize, y: Readings) -> bool
-    ensures { λ r. ⌜ r ≡ strayMark m y ⌝ }
+pub fn has_mark_beyond(m: usize, y: Readings) -> bool
+    ensures { λ r. ⌜ r ≡ markBeyond m y ⌝ }
 {
     let marks = y.present;
     let mut j = m;

@@ -11,8 +11,8 @@ use borrow.Author.Tests.{eq-eqb, ne-eqb, eqb-true, eqb-false, ltb-false, leb-fal
 use Rattle.lists.specs.Choice.{pick}
 use Rattle.lists.proofs.Choice.{pick-ok, pick-true, pick-false}
 use Rattle.readings.specs.declared.Readings.{Readings}
-use Rattle.readings.specs.Readings.{strayMark}
-use Rattle.scram.specs.declared.Answer.the-variants.{Done, Refused}
+use Rattle.readings.specs.Readings.{markBeyond}
+use Rattle.scram.specs.Answers.{Done, Refused}
 use Rattle.scram.specs.Held as Scram
 use Rattle.scram.specs.Events.{refusing, lastPeriod, lastView, ticked, afterTick, tick, raise, giveUp}
 use Rattle.law.specs.declared.Settings as Law
@@ -73,7 +73,7 @@ module _ (s : Settings) (frame command : ℕ) where
 module _ (law : Law.Settings) (member : Member) (h : Held) (m : ℕ) (y taken : Readings) where
   -- the tick, whose readings are taken as the law reads them
   abbrev pub ticks : Outcomes
-  ticks = tick (lawOf law) (groupOf member) (member .own) (heldIn h) (strayMark m y) taken
+  ticks = tick (lawOf law) (groupOf member) (member .own) (heldIn h) (markBeyond m y) taken
 
   -- what follows it
   abbrev pub next : Outcomes
@@ -90,7 +90,7 @@ module _ (law : Law.Settings) (member : Member) (h : Held) (m : ℕ) (y taken : 
 
   pub tick-refused : (tickRefusal h m y ≡ 0 → ⊥) → refusing (heldIn h) (tickRefusal h m y) ≡ ticks
   unfolding tickRefusal tick
-  tick-refused n = refused-by (lastPeriod (h .period)) (strayMark m y) (h .«view_change» && lastView (h .view)) n
+  tick-refused n = refused-by (lastPeriod (h .period)) (markBeyond m y) (h .«view_change» && lastView (h .view)) n
 
   -- the tests did not hold
   pub record Ticks : Type 0 where
@@ -100,13 +100,13 @@ module _ (law : Law.Settings) (member : Member) (h : Held) (m : ℕ) (y taken : 
 
   pub tick-done : tickRefusal h m y ≡ 0 → Ticks
   unfolding tickRefusal tick pick
-  tick-done e = by (lastPeriod (h .period)) (strayMark m y) (h .«view_change» && lastView (h .view)) refl refl refl e
+  tick-done e = by (lastPeriod (h .period)) (markBeyond m y) (h .«view_change» && lastView (h .view)) refl refl refl e
     where
       below : (b : Bool) → (b && lastView (h .view)) ≡ false → b ≡ true → h .view < 4294967295
       below true q z = leb-false _ _ q
       below false q z = absurd (false≢true z)
 
-      by : (a b c : Bool) → lastPeriod (h .period) ≡ a → strayMark m y ≡ b → (h .«view_change» && lastView (h .view)) ≡ c
+      by : (a b c : Bool) → lastPeriod (h .period) ≡ a → markBeyond m y ≡ b → (h .«view_change» && lastView (h .view)) ≡ c
           → pick {A = ℕ} a 6 (pick b 7 (pick c 12 0)) ≡ 0 → Ticks
       by true b c p q s e = absurd (omega arith)
       by false true c p q s e = absurd (omega arith)

@@ -8,9 +8,8 @@ use lib.Dec.{eqb, ltb}
 use lib.IntN.{ℤ}
 use Rattle.lists.specs.Choice.{pick}
 use Rattle.readings.specs.declared.Readings.{Readings}
-use Rattle.readings.specs.Readings.{normalised, strayMark}
-use Rattle.scram.specs.declared.Answer.{Answer}
-use Rattle.scram.specs.declared.Answer.the-variants.{Done, Refused}
+use Rattle.readings.specs.Readings.{normalised, markBeyond}
+use Rattle.scram.specs.Answers.{Answered, Done, Refused, answered}
 use Rattle.scram.specs.Held.{Outcome, fresh}
 use Rattle.scram.specs.Events as Events
 use Rattle.scram.specs.Events.{refusing}
@@ -45,7 +44,7 @@ unfoldable pub tickOutcome : Replica → Readings → ℕ → ℕ → Outcomes
 unfolding checked
 tickOutcome r y frame command =
     checked r frame command
-    (Events.tick (lawOf (r .settings .law)) (groupOf (memberOf (r .settings))) (r .settings .own) (heldIn (r .held)) (strayMark (r .settings .law .m) y)
+    (Events.tick (lawOf (r .settings .law)) (groupOf (memberOf (r .settings))) (r .settings .own) (heldIn (r .held)) (markBeyond (r .settings .law .m) y)
     (normalised (r .settings .law .m) y))
 
 -- a view given up
@@ -65,7 +64,7 @@ arriveOutcome r bytes frame command =
 -- a call with settings s gives what a step of the protocol does: its answer, its replica, the length written to each area, and each area to
 -- the last byte, the frame area from frame to frame′ and the command area from command to command′
 pub record Gives (s : Settings) (o : Outcomes) (r : Stepped) (frame frame′ command command′ : List ℕ) : Type 0 where
-  pub answer : r .answer ≡ o .answer
+  pub answer : answered (r .answer) ≡ o .answer
   pub replica : r .replica ≡ record { settings = s; held = heldOf (o .held) }
   pub frame-length : r .frame ≡ length (sentBytes (s .law .n) (s .law .m) (o .sent))
   pub command-length : r .command ≡ length (issuedBytes (s .law .p) (o .command))
@@ -73,7 +72,7 @@ pub record Gives (s : Settings) (o : Outcomes) (r : Stepped) (frame frame′ com
   pub command-bytes : command′ ≡ over (issuedBytes (s .law .p) (o .command)) command
 
 -- what making answers
-abbrev pub madeAnswer : Settings → Answer
+abbrev pub madeAnswer : Settings → Answered
 madeAnswer s = pick (eqb (settingsRefusal s) 0) Done (Refused (settingsRefusal s))
 
 -- the fresh replica of settings

@@ -9,8 +9,9 @@ use lib.IntN.{ℤ}
 use lib.ListN.{length}
 use Rattle.lists.specs.Choice.{pick}
 use Rattle.readings.specs.declared.Readings.{Readings}
-use Rattle.readings.specs.Readings.{strayMark}
+use Rattle.readings.specs.Readings.{markBeyond}
 use Rattle.scram.specs.declared.Answer.the-variants.{Ignored, Refused}
+use Rattle.scram.specs.Answers.{answered}
 use Rattle.scram.specs.declared.Kind.the-variants as Kind
 use Rattle.scram.specs.Quorum.{majority, among, with, count}
 use Rattle.scram.specs.Held.{Command}
@@ -37,7 +38,7 @@ commandOf law issues h = pick issues (some (Events.commandOf (lawOf law) (h .per
 
 -- a rule gives what a step of the protocol does, with the frame area from frame to frame′
 pub record Says (law : Law.Settings) (member : Member) (o : Outcomes) (r : Moved) (frame frame′ : List ℕ) : Type 0 where
-  pub answer : r .answer ≡ o .answer
+  pub answer : answered (r .answer) ≡ o .answer
   pub held : r .held ≡ heldOf (o .held)
   pub frame-length : r .frame ≡ length (sentBytes (member .n) (member .m) (o .sent))
   pub frame-bytes : frame′ ≡ over (sentBytes (member .n) (member .m) (o .sent)) frame
@@ -57,7 +58,7 @@ steppedBy s moved command = record {
 -- the number of the refusal that the protocol's tick makes, or 0 (`tick-refused`, `tick-done` of proofs/Calls.antt)
 unfoldable pub tickRefusal : Held → ℕ → Readings → ℕ
 tickRefusal h m y =
-    pick (Events.lastPeriod (h .period)) 6 (pick (strayMark m y) 7 (pick (h .«view_change» && Events.lastView (h .view)) 12 0))
+    pick (Events.lastPeriod (h .period)) 6 (pick (markBeyond m y) 7 (pick (h .«view_change» && Events.lastView (h .view)) 12 0))
 
 -- a refused step
 abbrev pub refusedStep : Replica → ℕ → Stepped

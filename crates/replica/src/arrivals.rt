@@ -222,14 +222,17 @@ fn arrive_frame(member: Member, held: Held, f: Frame, frame: &mut [u8]) -> Moved
         r (now (frame .entry)) (now (frame .exit))) ⌝ }
 {
     let kind = kind_of(f.kind);
-    if scram::refusals::bad_sender(member.boxes, member.own, f.sender) {
+    let sender = scram::refusals::bad_sender(member.boxes, member.own, f.sender);
+    let coordinator = scram::quorum::coordinator(member.boxes, f.view);
+    let place = scram::refusals::bad_place(kind, coordinator, member.own, f.sender);
+    let base = scram::refusals::bad_base(kind, f.period, f.view, f.base_view, f.base_period);
+    if sender {
         return refused_rule(held, 9);
     }
-    let coordinator = scram::quorum::coordinator(member.boxes, f.view);
-    if scram::refusals::bad_place(kind, coordinator, member.own, f.sender) {
+    if place {
         return refused_rule(held, 10);
     }
-    if scram::refusals::bad_base(kind, f.period, f.view, f.base_view, f.base_period) {
+    if base {
         return refused_rule(held, 11);
     }
     if ignores(held, kind, f) {

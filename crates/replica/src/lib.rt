@@ -7,6 +7,7 @@ mod rules;
 
 ghost use mathlib.Core.Path.{_≡_};
 ghost use lib.ListN.{length};
+ghost use Rattle.scram.specs.Answers.{answered};
 ghost use Rattle.replica.specs.Calls.{tickOutcome, giveUpOutcome, arriveOutcome, Gives, madeAnswer, made};
 ghost use Rattle.replica.specs.Rules.{steppedBy};
 use arrivals::arrive_bytes;
@@ -91,7 +92,7 @@ struct Moved {
 impl Replica {
     // A fresh replica.
     pub fn make(settings: Settings) -> Made
-        ensures answer { λ r. ⌜ r .answer ≡ madeAnswer settings ⌝ }
+        ensures answer { λ r. ⌜ answered (r .answer) ≡ madeAnswer settings ⌝ }
         ensures replica { λ r. ⌜ r .replica ≡ made settings ⌝ }
     {
         let law = settings.law;
@@ -145,7 +146,7 @@ impl Replica {
         let state = updated.state;
         let next = ticked(self.held, m, state, readings);
         let moved = after_tick(Member { boxes, own, n, m }, next, frame);
-        step_of(self.settings, moved, 0)
+        step_of(self, moved, 0)
     }
 
     // The view is given up.
@@ -173,7 +174,7 @@ impl Replica {
             return refused(self, number);
         }
         let moved = give_up_view(Member { boxes, own, n, m }, self.held, frame);
-        step_of(self.settings, moved, 0)
+        step_of(self, moved, 0)
     }
 
     // Bytes that arrive as a frame.
@@ -216,20 +217,21 @@ impl Replica {
             &self.settings.law.high,
             command,
         );
-        step_of(self.settings, moved, issued)
+        step_of(self, moved, issued)
     }
 }
 
-// What a rule leaves, beside the settings, which stay.
-fn step_of(settings: Settings, moved: Moved, command: usize) -> Stepped
-    ensures { λ r. ⌜ r ≡ steppedBy settings moved command ⌝ }
+// The step that a rule makes of the replica handed in: its settings stay.
+fn step_of(replica: Replica, moved: Moved, command: usize) -> Stepped
+    ensures { λ r. ⌜ r ≡ steppedBy (replica .settings) moved command ⌝ }
 {
-    let held = moved.held;
     let answer = moved.answer;
-    let replica = Replica { settings, held };
+    let settings = replica.settings;
+    let held = moved.held;
+    let next = Replica { settings, held };
     Stepped {
         answer,
-        replica,
+        replica: next,
         frame: moved.frame,
         command,
     }

@@ -53,7 +53,7 @@ pub(crate) fn with_box(heard: [bool; 10], box_number: u8) -> [bool; 10]
     more
 }
 
-// The first n values, and 0 behind them.
+// The first n values, and 0 after them.
 fn first_values(values: [i32; 6], n: usize) -> [i32; 6]
     requires { ⌜ n ≤ 6 ⌝ }
     ensures { λ r. ⌜ r ≡ filled (pos 0) 6 n (entry values) ⌝ }
@@ -122,12 +122,8 @@ pub(crate) fn ticked(held: Held, m: usize, updated: [i32; 6], readings: Readings
     ensures { λ r. ⌜ ((law : Law.Settings) → updated ≡ lawOf law .update (held .estimate .state) (held .estimate .readings)
         → r ≡ heldOf (Events.ticked (lawOf law) (heldIn held) (normalised m readings))) ⌝ }
 {
-    let state = next_state(held, updated);
     let taken = readings::normalise(m, readings);
-    let estimate = Estimate {
-        state,
-        readings: taken,
-    };
+    let estimate = next_estimate(held, updated, taken);
     let best = no_best();
     let mut next = held;
     next.period = held.period + 1;
@@ -138,17 +134,19 @@ pub(crate) fn ticked(held: Held, m: usize, updated: [i32; 6], readings: Readings
     next
 }
 
-// The state that the next period starts from: no update on the first tick.
-fn next_state(held: Held, updated: [i32; 6]) -> [i32; 6]
+// The estimate that the next period starts with: the readings taken, and no update on the first tick.
+fn next_estimate(held: Held, updated: [i32; 6], taken: Readings) -> Estimate
     ensures { λ r. ⌜ ((law : Law.Settings) → updated ≡ lawOf law .update (held .estimate .state) (held .estimate .readings)
-        → r ≡ Events.nextState (lawOf law) (heldIn held)) ⌝ }
+        → r ≡ record { state = Events.nextState (lawOf law) (heldIn held); readings = taken }) ⌝ }
 {
+    let before = held.estimate;
+    let mut renewed = before;
+    renewed.readings = taken;
     if held.period == 0 {
-        let estimate = held.estimate;
-        let state = estimate.state;
-        return state;
+        return renewed;
     }
-    updated
+    renewed.state = updated;
+    renewed
 }
 
 // A view entered as its coordinator.
@@ -190,6 +188,7 @@ pub(crate) fn following(held: Held, view: u32) -> Held
 pub(crate) fn adopting(held: Held, view: u32, estimate: Estimate, decided: bool) -> Held
     ensures { λ r. ⌜ ((law : Law.Settings) → r ≡ heldOf (Events.adopting (lawOf law) (heldIn held) view (estimateIn estimate) decided)) ⌝ }
 {
+    let period = held.period;
     let best = no_best();
     let mut next = held;
     next.view = view;
@@ -197,7 +196,7 @@ pub(crate) fn adopting(held: Held, view: u32, estimate: Estimate, decided: bool)
     next.view_change = false;
     next.decided = decided;
     next.estimate = estimate;
-    next.base_period = held.period;
+    next.base_period = period;
     next.heard = [false; 10];
     next.best = best;
     next
@@ -209,13 +208,13 @@ pub(crate) fn proposing(own: u8, held: Held, estimate: Estimate) -> Held
     ensures { λ r. ⌜ ((law : Law.Settings) → r ≡ heldOf (Events.proposing (lawOf law) own (heldIn held) (estimateIn estimate))) ⌝ }
 {
     let best = no_best();
-    let heard = only(own);
+    let acknowledged = only(own);
     let mut next = held;
     next.base_view = held.view;
     next.view_change = false;
     next.estimate = estimate;
     next.base_period = held.period;
-    next.heard = heard;
+    next.heard = acknowledged;
     next.best = best;
     next
 }

@@ -1,8 +1,10 @@
 // Refusals 1 to 7 and 12, which need no frame: the settings, the lent areas, and the tick.
 ghost use mathlib.Core.Path.{_≡_};
+ghost use mathlib.Core.Bool.{_&&_};
 ghost use Rattle.law.specs.declared.Settings as Law;
 ghost use Rattle.law.specs.Answer.{number};
 ghost use Rattle.law.specs.Settings.{refusal};
+ghost use Rattle.scram.specs.Events as Events;
 ghost use Rattle.replica.specs.Settings.{badGroup, settingsRefusal};
 ghost use Rattle.replica.specs.Calls.{shortArea, stepRefusal};
 ghost use Rattle.replica.specs.Rules.{tickRefusal, refusedStep, refusedRule, ignoredRule};
@@ -54,10 +56,11 @@ pub(crate) fn step_refusal(boxes: u8, own: u8, law: law::Answer, frame: usize, c
     ensures { λ r. ⌜ ((s : Law.Settings) → number law ≡ refusal s → r ≡ stepRefusal (record { boxes = boxes; own = own; law = s }) frame command) ⌝ }
 {
     let number = settings_refusal(boxes, own, law);
+    let short = short_area(frame, command);
     if number != 0 {
         return number;
     }
-    if short_area(frame, command) {
+    if short {
         return 5;
     }
     0
@@ -67,18 +70,28 @@ pub(crate) fn step_refusal(boxes: u8, own: u8, law: law::Answer, frame: usize, c
 pub(crate) fn tick_refusal(held: Held, m: usize, readings: Readings) -> u8
     ensures { λ r. ⌜ r ≡ tickRefusal held m readings ⌝ }
 {
+    let beyond = readings::has_mark_beyond(m, readings);
+    let last = raises_last_view(held);
     if 4294967295 <= held.period {
         return 6;
     }
-    if readings::has_stray_mark(m, readings) {
+    if beyond {
         return 7;
     }
-    if held.view_change {
-        if 4294967295 <= held.view {
-            return 12;
-        }
+    if last {
+        return 12;
     }
     0
+}
+
+// Whether a tick would raise a view that is the largest.
+fn raises_last_view(held: Held) -> bool
+    ensures { λ r. ⌜ r ≡ (held .«view_change» && Events.lastView (held .view)) ⌝ }
+{
+    if held.view_change {
+        return 4294967295 <= held.view;
+    }
+    false
 }
 
 // A refused step: nothing has changed.

@@ -1,6 +1,8 @@
-// The bench for any group: the first line of standard input describes it, and the lines behind are played. What it prints of them is `rigOutput` of
+// The bench for any group: the first line of standard input describes it, and the lines after are played. What it prints of them is `rigOutput` of
 // script/specs/Script.antt, by the contract of `script::output::rig`. The lines so far are played again whenever more come, and what is new is printed,
-// so that lines typed at a terminal are answered at once.
+// so that lines typed at a terminal are answered at once. What is wrong with the first line is said once, on standard error.
+mod errors;
+
 use console::CHUNK;
 use script::output::OUTPUT;
 
@@ -13,6 +15,9 @@ const TEXT: usize = 1026549;
 fn play(text: &[u8], output: &mut [u8; OUTPUT], printed: usize) -> usize {
     let n = script::output::rig(text, output);
     console::write_more(output, printed, n);
+    if printed == 0 {
+        errors::say(script::output::first_line(text));
+    }
     n
 }
 

@@ -6,6 +6,7 @@ use Prim.Native.Nat.{ℕ, suc, _+_, _-_, _≤_, _<_}
 use native.Mathlib.Omega.{arith}
 use lib.ListN.{length}
 use Rattle.scram.specs.Held.{Law, Group, Estimate, Held, Message, Input, Tick, Arrival, GiveUp}
+use Rattle.scram.specs.Events.{largest, commandOf}
 use Rattle.scram.specs.History.{System, Entry, Issued, In, after}
 use Rattle.scram.specs.Demand3.{controller, controllerCommand, HandedFor, Decided, Demand3}
 use Rattle.scram.specs.Shown.{Shown}
@@ -58,44 +59,56 @@ module _ {State Readings Values : Type 0} (law : Law State Readings Values) (row
 module _ {State Readings Values : Type 0} (system : System State Readings Values) (Kept : ℕ → system .Box → Type 0)
     (Carried : Message State Readings → Type 0) (law : Law State Readings Values) (group : Group) (shown : Shown system Kept Carried law group)
     (quorums : group .size < group .toDecide + group .toPropose) (h : List (Entry (system .Handed) (system .Areas))) where
+  -- rows that boxes were handed, of periods not above the largest
+  abbrev Fed : ℕ → Readings → Type 0
+  Fed k y = HandedFor system h k y × (k ≤ largest)
+
+  fed-bounded : (l : List Readings) → EachFed Fed l → length l ≤ largest
+  fed-bounded [] f = omega arith
+  fed-bounded (y ∷ l) f = f .0 .1
+
   -- a tick of the list that is not refused is the one that its row was handed by
   handed-by : (before later : List (Entry (system .Handed) (system .Areas))) (i : ℕ) (e : Input (system .Handed) ℕ) (a : system .Areas)
       → h ≡ before ++ (record { box = i; event = e; areas = a } ∷ later)
-      → EntryFeeds system Kept Carried law group shown (HandedFor system h) (after system before) (record { box = i; event = e; areas = a })
-  handed-by before later i (Tick y) a q = λ taken. record {
-    box = i;
-    handed = y;
-    areas = a;
-    before = before;
-    later = later;
-    whole = q;
-    taken = taken;
-    kth = refl;
-    same = refl;
-  }
+      → EntryFeeds system Kept Carried law group shown Fed (after system before) (record { box = i; event = e; areas = a })
+  handed-by before later i (Tick y) a q = λ taken bounded. (
+    record {
+      box = i;
+      handed = y;
+      areas = a;
+      before = before;
+      later = later;
+      whole = q;
+      taken = taken;
+      kth = refl;
+      same = refl;
+    },
+    bounded,
+  )
   handed-by before later i (Arrival j) a q = tt
   handed-by before later i GiveUp a q = tt
 
-  invariant : Invariant system Kept Carried law group shown (HandedFor system h) (after system h)
+  invariant : Invariant system Kept Carried law group shown Fed (after system h)
   unfolding after
   invariant =
-      after-invariant system Kept Carried law group shown (HandedFor system h) [] h (λ b a e q. handed-by b a (e .box) (e .event) (e .areas) q)
-      (start-invariant system Kept Carried law group shown (HandedFor system h))
+      after-invariant system Kept Carried law group shown Fed [] h (λ b a e q. handed-by b a (e .box) (e .event) (e .areas) q)
+      (start-invariant system Kept Carried law group shown Fed)
 
   abbrev heldBy : Issued (system .Box) → Held State Readings
   heldBy x = system .held (x .box)
 
-  longest-rows : Longest law group (HandedFor system h) heldBy (invariant .facts) (after system h .issued)
+  longest-rows : Longest law group Fed heldBy (invariant .facts) (after system h .issued)
   longest-rows =
-      longest law group (HandedFor system h) heldBy quorums (invariant .facts) (invariant .consistent) (after system h .issued)
+      longest law group Fed heldBy quorums (invariant .facts) (invariant .consistent) (after system h .issued)
       (λ x p. invariant .written x p .decision)
 
   -- demand 3, for a + b > N
   pub demand-3 : Demand3 system law h
   demand-3 = record {
     last = length rows;
+    bounded = fed-bounded rows (each-fed (longest-rows .behind));
     row = rowAt (law .none) rows;
-    handed = row-fed (law .none) (HandedFor system h) rows (each-fed (longest-rows .behind));
+    handed = λ k p q. row-fed (law .none) Fed rows (each-fed (longest-rows .behind)) k p q .0;
     decided = λ x p. decided x (invariant .written x p) (longest-rows .serves x p);
     isLast = ends (longest-rows .behind);
   }
@@ -103,33 +116,44 @@ module _ {State Readings Values : Type 0} (system : System State Readings Values
       rows : List Readings
       rows = longest-rows .rows
 
-      each-fed : (rows ≡ []) ⊎ Behind law group (HandedFor system h) heldBy (invariant .facts) (after system h .issued) rows → EachFed (HandedFor system h) rows
+      each-fed : (rows ≡ []) ⊎ Behind law group Fed heldBy (invariant .facts) (after system h .issued) rows → EachFed Fed rows
       each-fed (inl z) = rw z tt
       each-fed (inr (x, v, i, p, c)) = invariant .consistent .rows v (heldBy x .period) rows p .0 .1
 
-      ends : (rows ≡ []) ⊎ Behind law group (HandedFor system h) heldBy (invariant .facts) (after system h .issued) rows
-          → (length rows ≡ 0) ⊎ ((x : Issued (system .Box)) × In x (after system h .issued) × (heldBy x .period ≡ length rows))
-      ends (inl z) = inl (ap length z)
-      ends (inr (x, v, i, p, c)) = inr (x, i, sym (invariant .consistent .rows v (heldBy x .period) rows p .0 .0))
+      -- the period in a command's bytes is that of the replica given back with it
+      read : (x : Issued (system .Box)) → Told system Kept Carried law group shown Fed (invariant .facts) x
+          → system .commandPeriod (x .bytes) ≡ heldBy x .period
+      read x t =
+          let (v, l, p, _, _) = t .decision in
+          let (to, _) = invariant .consistent .rows v (heldBy x .period) l p in
+          let e = to .0 in
+          let below = fed-bounded l (to .1) in
+          ap (system .commandPeriod) (t .bytes) ∙ shown .periodRead (commandOf law (heldBy x .period) (heldBy x .estimate)) (omega arith)
 
-      decided : (x : Issued (system .Box)) → Told system Kept Carried law group shown (HandedFor system h) (invariant .facts) x
-          → Served law group (HandedFor system h) heldBy rows x → Decided system law (length rows) (rowAt (law .none) rows) x
+      ends : (rows ≡ []) ⊎ Behind law group Fed heldBy (invariant .facts) (after system h .issued) rows
+          → (length rows ≡ 0) ⊎ ((x : Issued (system .Box)) × In x (after system h .issued) × (system .commandPeriod (x .bytes) ≡ length rows))
+      ends (inl z) = inl (ap length z)
+      ends (inr (x, v, i, p, c)) = inr (x, i, read x (invariant .written x i) ∙ sym (invariant .consistent .rows v (heldBy x .period) rows p .0 .0))
+
+      decided : (x : Issued (system .Box)) → Told system Kept Carried law group shown Fed (invariant .facts) x
+          → Served law group Fed heldBy rows x → Decided system law (length rows) (rowAt (law .none) rows) x
       decided x t (l, s, a, b, m) =
           let z = controller-made law (rowAt (law .none) rows) l (heldBy x .estimate) (omega arith) (λ k _ q. row-begins (law .none) s k q) m in record {
             period = length l;
             from1 = omega arith;
             most = begins-length s;
+            written = read x t ∙ sym a;
             held = sym a;
             state = z .0;
             bytes = t .bytes ∙ λ i. system .commandBytes (record { period = sym a i; values = z .1 i });
           }
 
--- all commands of one period are alike to the last byte
+-- all commands of one period, which their bytes have, are alike to the last byte
 pub commands-alike : {State Readings Values : Type 0} (system : System State Readings Values) (law : Law State Readings Values)
     (h : List (Entry (system .Handed) (system .Areas))) → Demand3 system law h → (c d : Issued (system .Box)) → In c (after system h .issued)
-    → In d (after system h .issued) → system .held (c .box) .period ≡ system .held (d .box) .period → c .bytes ≡ d .bytes
+    → In d (after system h .issued) → system .commandPeriod (c .bytes) ≡ system .commandPeriod (d .bytes) → c .bytes ≡ d .bytes
 commands-alike system law h run c d p q e =
     let a = run .decided c p in
     let b = run .decided d q in
-    let k : a .period ≡ b .period = sym (a .held) ∙ e ∙ b .held in
+    let k : a .period ≡ b .period = sym (a .written) ∙ e ∙ b .written in
     a .bytes ∙ ap (λ n. system .commandBytes (record { period = n; values = controllerCommand law (run .row) n })) k ∙ sym (b .bytes)

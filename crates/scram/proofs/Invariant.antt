@@ -5,7 +5,7 @@ use mathlib.Core.Logic.{_⊎_, inl, inr}
 use mathlib.Core.Bool.{Bool, true, false, not, _&&_, false≢true}
 use mathlib.Core.Option.{Option, none, some}
 use mathlib.Core.List.{List, [], _∷_, _++_, append-assoc, append-nil}
-use Prim.Native.Nat.{ℕ, zero, suc, _+_}
+use Prim.Native.Nat.{ℕ, zero, suc, _+_, _≤_}
 use native.Mathlib.Omega.{arith}
 use lib.ListN.{length, getD}
 use lib.Dec.{T, eqb, eqb→eq}
@@ -13,7 +13,7 @@ use Rattle.lists.specs.Choice.{pick}
 use Rattle.lists.proofs.Choice.{pick-ok, pick-false}
 use Rattle.lists.proofs.Booleans.{eqb-no}
 use Rattle.scram.specs.Held.{Law, Group, Held, Message, Command, Input, Tick, Arrival, GiveUp}
-use Rattle.scram.specs.Events.{commandOf}
+use Rattle.scram.specs.Events.{largest, commandOf}
 use Rattle.scram.specs.History.{Result, System, Entry, Issued, Situation, issuing, ticksOn, In, delivered, called, step, steps, after}
 use Rattle.scram.specs.Shown.{isRefused, Still, inBytes, outcome, Arrives, Sent, Commanded, Does, Shown}
 use Rattle.scram.proofs.Facts.{Facts, Consistent}
@@ -70,23 +70,23 @@ module _ {State Readings Values : Type 0} (system : System State Readings Values
   Brings f (Arrival m) = Tells law group fed f (m .kind) m
   Brings f GiveUp = Unit {0}
 
-  -- a tick of period k that is not refused feeds its row
+  -- a tick of period k that is not refused feeds its row, where the period is not above the largest
   abbrev Feeds : {Arriving : Type 0} → Input (system .Handed) Arriving → ℕ → Bool → Type 0
-  Feeds (Tick y) k refused = refused ≡ false → fed k (system .row y)
+  Feeds (Tick y) k refused = refused ≡ false → k ≤ largest → fed k (system .row y)
   Feeds (Arrival x) k refused = Unit {0}
   Feeds GiveUp k refused = Unit {0}
 
   outcome-keeps : (f : Facts Readings) (i : ℕ) (s : Held State Readings) (e : Input (system .Handed) (Message State Readings)) → Consistent f group fed
       → Tied law group fed f i s → Brings f e → Feeds e (suc (s .period)) (isRefused (outcome system law group i s e .answer))
       → Keeps law group fed f i (outcome system law group i s e)
-  outcome-keeps f i s (Tick y) ok t b h = tick-keeps law group fed f i s (system .stray y) (system .row y) ok t h
+  outcome-keeps f i s (Tick y) ok t b h = tick-keeps law group fed f i s (system .beyond y) (system .row y) ok t h
   outcome-keeps f i s (Arrival m) ok t b h = arrive-keeps law group fed f i s ok t m b
   outcome-keeps f i s GiveUp ok t b h = giveUp-keeps law group fed f i s ok t
 
   outcome-period : (i : ℕ) (s : Held State Readings) (e : Input (system .Handed) (Message State Readings))
       → outcome system law group i s e .held .period ≡ s .period + pick (ticksOn e (isRefused (outcome system law group i s e .answer))) 1 0
   unfolding pick
-  outcome-period i s (Tick y) = tick-counted law group i s (system .stray y) (system .row y) .period
+  outcome-period i s (Tick y) = tick-counted law group i s (system .beyond y) (system .row y) .period
   outcome-period i s (Arrival m) = let e = arrive-stays law group i s m .period in omega arith
   outcome-period i s GiveUp = let e = giveUp-stays law group i s .period in omega arith
 

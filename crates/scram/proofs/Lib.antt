@@ -10,4 +10,3 @@ pub mod Steps
 pub mod Longest
 pub mod Invariant
 pub mod Agreement
-pub mod Examples

@@ -44,9 +44,9 @@ module _ {State Readings Values : Type 0} (law : Law State Readings Values) (gro
       pick-ok (Taken (s .period)) _ _ _ (λ _. raise-taken s)
       (λ _. pick-ok (Taken (s .period)) _ _ _ (λ _. record { period = refl; done = refl }) (λ _. record { period = refl; done = refl }))
 
-  pub tick-counted : (s : Held State Readings) (stray : Bool) (y : Readings) → Counted (s .period) (tick law group i s stray y)
+  pub tick-counted : (s : Held State Readings) (beyond : Bool) (y : Readings) → Counted (s .period) (tick law group i s beyond y)
   unfolding tick
-  tick-counted s stray y =
+  tick-counted s beyond y =
       pick-ok (Counted (s .period)) _ _ _ (λ _. refused-counted s 6)
       (λ _. pick-ok (Counted (s .period)) _ _ _ (λ _. refused-counted s 7)
       (λ _. pick-ok (Counted (s .period)) _ _ _ (λ _. refused-counted s 12)

@@ -6,11 +6,11 @@ use mathlib.Core.Option.{none}
 use mathlib.Core.List.{List, _∷_}
 use Prim.Native.Nat.{ℕ, suc, _+_, _≤_, _<_}
 use native.Mathlib.Omega.{arith}
-use lib.Dec.{T, eqb, ltb, eqb→eq, eqb-refl, ltb→lt, nltb→le}
+use lib.Dec.{T, eqb, ltb, eqb→eq, eqb-refl, ltb→lt, nltb→le, nleb→lt}
 use Rattle.scram.specs.Quorum.{among}
 use Rattle.scram.specs.Held.{Law, Group, Held, Kind, Message, Outcome}
 use Rattle.scram.specs.declared.Kind.the-variants as Kind
-use Rattle.scram.specs.Events.{badSender, badPlace, badBase, idle, stale, unwanted, ignores, lastPeriod, lastView}
+use Rattle.scram.specs.Events.{badSender, badPlace, badBase, idle, stale, unwanted, ignores, largest, lastPeriod, lastView}
 use Rattle.scram.specs.Events.{refusing, ignoring, doing, estimateOf, entered, ticked, leads, afterTick, tick, giveUp, hearEstimate, receive, arrive}
 use Rattle.scram.specs.Shown.{isRefused}
 use Rattle.lists.proofs.Choice.{pick-ok}
@@ -134,19 +134,22 @@ module _ {State Readings Values : Type 0} (law : Law State Readings Values) (gro
           change = λ e _. absurd (eqb-no i (group .coordinator (s .view)) u (sym e));
         })))
 
-  -- a tick that is not refused feeds its row
+  -- a tick that is not refused feeds its row, of a period not above the largest: "period already 4,294,967,295" is refused by 6
   record Feeds (f : Facts Readings) (i k : ℕ) (y : Readings) (o : Outcome State Readings Values) : Type 1 where
-    keeps : (isRefused (o .answer) ≡ false → fed k y) → Keeps law group fed f i o
+    keeps : (isRefused (o .answer) ≡ false → k ≤ largest → fed k y) → Keeps law group fed f i o
 
-  pub tick-keeps : (f : Facts Readings) (i : ℕ) (s : Held State Readings) (stray : Bool) (y : Readings) → Consistent f group fed
-      → Tied law group fed f i s → (isRefused (tick law group i s stray y .answer) ≡ false → fed (suc (s .period)) y)
-      → Keeps law group fed f i (tick law group i s stray y)
+  pub tick-keeps : (f : Facts Readings) (i : ℕ) (s : Held State Readings) (beyond : Bool) (y : Readings) → Consistent f group fed
+      → Tied law group fed f i s → (isRefused (tick law group i s beyond y .answer) ≡ false → suc (s .period) ≤ largest → fed (suc (s .period)) y)
+      → Keeps law group fed f i (tick law group i s beyond y)
   unfolding tick
-  tick-keeps f i s stray y ok t =
+  tick-keeps f i s beyond y ok t =
       pick-ok (Feeds f i (suc (s .period)) y) (lastPeriod (s .period)) _ _ (λ _. refuse 6)
-      (λ _. pick-ok (Feeds f i (suc (s .period)) y) stray _ _ (λ _. refuse 7)
+      (λ a. pick-ok (Feeds f i (suc (s .period)) y) beyond _ _ (λ _. refuse 7)
       (λ _. pick-ok (Feeds f i (suc (s .period)) y) (s .viewChange && lastView (s .view)) _ _ (λ _. refuse 12)
-      (λ _. record { keeps = λ h. afterTick-keeps f i s y (h (after-taken law group i (ticked law s y) .done)) ok t }))) .keeps
+      (λ _. record {
+        keeps = λ h. let below = nleb→lt largest (s .period) a in
+            afterTick-keeps f i s y (h (after-taken law group i (ticked law s y) .done) (omega arith)) ok t;
+      }))) .keeps
     where
       refuse : (number : ℕ) → Feeds f i (suc (s .period)) y (refusing s number)
       refuse number = record { keeps = λ _. same f i s number ok t }

@@ -6,6 +6,7 @@ use mathlib.Core.Bool.{false}
 use mathlib.Core.List.{List, _∷_, _++_}
 use Prim.Native.Nat.{ℕ, zero, suc, _-_, _≤_}
 use Rattle.scram.specs.Held.{Law, Tick}
+use Rattle.scram.specs.Events.{largest}
 use Rattle.scram.specs.History.{System, Entry, Issued, In, after}
 
 -- ---- the single controller, fed row k in step k
@@ -38,21 +39,25 @@ module _ {State Readings Values : Type 0} (system : System State Readings Values
     pub same : y ≡ system .row handed
 
   module _ (law : Law State Readings Values) where
-    -- "A step decides period k if it writes a command with period k". "each decided state of period k is the controller's after step k,
-    -- and each command written for k holds its command k, byte for byte". "Its decided state is Update of the estimate's state and
-    -- readings in the replica that this step gives back."
+    -- "A step decides period k if it writes a command with period k": k is read from the command's bytes, and the replica that this step
+    -- gives back is in that period too. "each decided state of period k is the controller's after step k, and each command written for k
+    -- holds its command k, byte for byte". "Its decided state is Update of the estimate's state and readings in the replica that this
+    -- step gives back."
     pub record Decided (last : ℕ) (row : ℕ → Readings) (c : Issued (system .Box)) : Type 0 where
       pub period : ℕ
       pub from1 : 1 ≤ period
       pub most : period ≤ last
+      pub written : system .commandPeriod (c .bytes) ≡ period
       pub held : system .held (c .box) .period ≡ period
       pub state : law .update (system .held (c .box) .estimate .state) (system .held (c .box) .estimate .readings) ≡ controller law row period
       pub bytes : c .bytes ≡ system .commandBytes (record { period = period; values = controllerCommand law row period })
 
-    -- "It is fed one row of readings for each period from 1 to the last one decided." "One choice of rows serves all decided periods"
+    -- "It is fed one row of readings for each period from 1 to the last one decided." "One choice of rows serves all decided periods". No
+    -- period is above the largest of 32 bits, and the last one, where any was decided, is that of a command written.
     pub record Demand3 (h : List (Entry (system .Handed) (system .Areas))) : Type 0 where
       pub last : ℕ
+      pub bounded : last ≤ largest
       pub row : ℕ → Readings
       pub handed : (k : ℕ) → 1 ≤ k → k ≤ last → HandedFor h k (row k)
       pub decided : (c : Issued (system .Box)) → In c (after system h .issued) → Decided last row c
-      pub isLast : (last ≡ 0) ⊎ ((c : Issued (system .Box)) × In c (after system h .issued) × (system .held (c .box) .period ≡ last))
+      pub isLast : (last ≡ 0) ⊎ ((c : Issued (system .Box)) × In c (after system h .issued) × (system .commandPeriod (c .bytes) ≡ last))

@@ -8,7 +8,7 @@ use Rattle.lists.specs.Choice.{pick}
 use Rattle.scram.specs.Quorum.{nobody, among, with, count, beats}
 use Rattle.scram.specs.Held.{Law, Group, Estimate, Best, Held, Kind, Message, Command, Outcome, noEstimate, noBest}
 use Rattle.scram.specs.declared.Kind.the-variants as Kind
-use Rattle.scram.specs.declared.Answer.the-variants.{Done, Ignored, Refused}
+use Rattle.scram.specs.Answers.{Done, Ignored, Refused}
 
 -- the largest period and the largest view, of 32 bits
 abbrev pub largest : ℕ
@@ -260,12 +260,12 @@ module _ {State Readings Values : Type 0} (law : Law State Readings Values) wher
     unfolding raise
     afterTick s = pick (s .viewChange) (raise s) (pick (leads group own (s .view)) (propose s (s .estimate)) (doing s none none))
 
-    -- Tick with readings: 6, then 7 (`stray` tells whether there is a present mark at or above m), then 12, then the rule
+    -- Tick with readings: 6, then 7 (`beyond` tells whether there is a present mark at or above m), then 12, then the rule
     unfoldable pub tick : Held State Readings → Bool → Readings → Outcome State Readings Values
     unfolding afterTick
-    tick s stray y =
+    tick s beyond y =
         pick (lastPeriod (s .period)) (refusing s 6)
-        (pick stray (refusing s 7)
+        (pick beyond (refusing s 7)
         (pick (s .viewChange && lastView (s .view)) (refusing s 12)
         (afterTick (ticked s y))))
 

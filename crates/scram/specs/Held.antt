@@ -4,7 +4,7 @@ use mathlib.Core.List.{List}
 use mathlib.Core.Option.{Option}
 use Prim.Native.Nat.{ℕ}
 pub use Rattle.scram.specs.declared.Kind.{Kind}
-pub use Rattle.scram.specs.declared.Answer.{Answer}
+pub use Rattle.scram.specs.Answers.{Answered}
 use Rattle.scram.specs.Quorum.{nobody}
 
 -- a deterministic law, as the protocol sees it: its update, what a decision issues for an estimate's state and readings, the starting state, a
@@ -72,7 +72,7 @@ pub data Input (Handed Arriving : Type 0) : Type 0 where
 
 -- what a step gives; "Each event sends at most one frame."
 pub record Outcome (State Readings Values : Type 0) : Type 0 where
-  pub answer : Answer
+  pub answer : Answered
   pub held : Held State Readings
   pub sent : Option (Message State Readings)
   pub command : Option (Command Values)

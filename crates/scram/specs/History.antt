@@ -21,8 +21,8 @@ pub record Result (Box : Type 0) : Type 0 where
   pub command : List ℕ
 
 -- An implementation: its replicas, what a tick is handed, the lent areas, its call for an input (what arrives are bytes), and how they are
--- read: what a replica holds, the row that readings handed to it are, whether a mark among them is out of place, and the bytes of a frame
--- and of a command.
+-- read: what a replica holds, the row that readings handed to it are, whether a mark among them is out of place, the bytes of a frame and
+-- of a command, and the period that a command's bytes have.
 pub record System (State Readings Values : Type 0) : Type 1 where
   pub Box : Type 0
   pub Handed : Type 0
@@ -31,9 +31,10 @@ pub record System (State Readings Values : Type 0) : Type 1 where
   pub call : Box → Input Handed (List ℕ) → Areas → Result Box
   pub held : Box → Held State Readings
   pub row : Handed → Readings
-  pub stray : Handed → Bool
+  pub beyond : Handed → Bool
   pub frameBytes : Message State Readings → List ℕ
   pub commandBytes : Command Values → List ℕ
+  pub commandPeriod : List ℕ → ℕ
 
 -- ---- entries
 

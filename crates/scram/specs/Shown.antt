@@ -1,18 +1,18 @@
 -- What the calls of an implementation must show, so that demand 3 holds of it: each call does nothing and is refused, or does what the
--- protocol's step does.
+-- protocol's step does; and a command's period is read back from its bytes.
 use mathlib.Core.Path.{_≡_}
 use mathlib.Core.Logic.{_⊎_}
 use mathlib.Core.Bool.{Bool, true, false}
 use mathlib.Core.List.{List, []}
 use mathlib.Core.Option.{Option, none, some}
-use Prim.Native.Nat.{ℕ}
-use Rattle.scram.specs.Held.{Law, Group, Held, Message, Command, Input, Tick, Arrival, GiveUp, Answer, Outcome, fresh}
-use Rattle.scram.specs.declared.Answer.the-variants.{Done, Ignored, Refused}
-use Rattle.scram.specs.Events.{tick, giveUp, arrive}
+use Prim.Native.Nat.{ℕ, _≤_}
+use Rattle.scram.specs.Held.{Law, Group, Held, Message, Command, Input, Tick, Arrival, GiveUp, Answered, Outcome, fresh}
+use Rattle.scram.specs.Answers.{Done, Ignored, Refused}
+use Rattle.scram.specs.Events.{largest, tick, giveUp, arrive}
 use Rattle.scram.specs.History.{Result, System}
 
 -- whether an answer is a refusal
-abbrev pub isRefused : Answer → Bool
+abbrev pub isRefused : Answered → Bool
 isRefused Done = false
 isRefused Ignored = false
 isRefused (Refused number) = true
@@ -34,7 +34,7 @@ module _ {State Readings Values : Type 0} (system : System State Readings Values
   -- the protocol's step for an input, at box i
   abbrev pub outcome : Law State Readings Values → Group → ℕ → Held State Readings → Input (system .Handed) (Message State Readings)
       → Outcome State Readings Values
-  outcome law group i s (Tick y) = tick law group i s (system .stray y) (system .row y)
+  outcome law group i s (Tick y) = tick law group i s (system .beyond y) (system .row y)
   outcome law group i s (Arrival m) = arrive law group i s m
   outcome law group i s GiveUp = giveUp law group i s
 
@@ -63,9 +63,10 @@ module _ {State Readings Values : Type 0} (system : System State Readings Values
       pub frame : Sent Carried (o .sent) (r .frame)
       pub command : Commanded (o .command) (r .command)
 
-    -- the calls, for replicas of box i of which `Kept i` always holds and messages of which `Carried` does
+    -- the calls, for replicas of box i of which `Kept i` always holds and messages of which `Carried` does; and the bytes of commands
     pub record Shown (law : Law State Readings Values) (group : Group) : Type 0 where
       pub freshKept : (i : ℕ) → Kept i (system .fresh i)
       pub freshHeld : (i : ℕ) → system .held (system .fresh i) ≡ fresh law
       pub calls : (i : ℕ) (c : system .Box) (e : Input (system .Handed) (Message State Readings)) (a : system .Areas) → Kept i c → Arrives Carried e
           → Does i (outcome law group i (system .held c) e) (system .call c (inBytes e) a) ⊎ Still c (system .call c (inBytes e) a)
+      pub periodRead : (c : Command Values) → c .period ≤ largest → system .commandPeriod (system .commandBytes c) ≡ c .period

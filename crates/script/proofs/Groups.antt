@@ -6,7 +6,7 @@ use Prim.Native.Nat.{ℕ}
 use native.Mathlib.Omega.{arith}
 use lib.Dec.{eqb}
 use Rattle.lists.specs.Choice.{pick}
-use Rattle.scram.specs.declared.Answer.the-variants.{Done, Ignored, Refused}
+use Rattle.scram.specs.Answers.{Done, Ignored, Refused}
 use Rattle.replica.specs.declared.Settings.{Settings}
 use Rattle.replica.specs.Settings.{settingsRefusal}
 use Rattle.replica.specs.Calls.{madeAnswer}

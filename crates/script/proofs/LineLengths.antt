@@ -7,11 +7,9 @@ use lib.Dec.{eqb}
 use lib.IntN.{ℤ, pos}
 use lib.ListN.{length, take, length-append}
 use Rattle.lists.proofs.Places.{filled-length}
-use Rattle.scram.specs.declared.Answer.{Answer}
-use Rattle.scram.specs.declared.Answer.the-variants.{Done, Ignored, Refused}
+use Rattle.scram.specs.Answers.{Answered, Done, Ignored, Refused}
 use Rattle.frame.specs.Command.{commandValues}
 use Rattle.replica.specs.declared.Replica.{Replica}
-use Rattle.replica.specs.declared.Stepped.{Stepped}
 use Rattle.text.specs.Printing.{decimal, listed}
 use Rattle.text.proofs.PrintingLengths.{pick-length, decimal-length, listed-length}
 use Rattle.script.specs.Play.{lineRoom, stateRoom}
@@ -22,13 +20,13 @@ take-length-le zero values = omega arith
 take-length-le (suc n) [] = omega arith
 take-length-le (suc n) (z ∷ zs) = let h = take-length-le n zs in omega arith
 
-answer-length : (answer : Answer) → length (answerWord answer) ≤ 11
+answer-length : (answer : Answered) → length (answerWord answer) ≤ 11
 unfolding answerWord
 answer-length Done = omega arith
 answer-length Ignored = omega arith
 answer-length (Refused number) = omega (arith, decimal-length number)
 
-head-length : (number who : ℕ) (answer : Answer) → length (headWords number who answer) ≤ 33
+head-length : (number who : ℕ) (answer : Answered) → length (headWords number who answer) ≤ 33
 unfolding headWords
 head-length number who answer =
     omega (
@@ -86,16 +84,16 @@ refusal-length number = omega (arith, length-append (decimal number) (10 ∷ [])
 five : (a b c d e : List ℕ) → length (a ++ (b ++ (c ++ (d ++ (e ++ (10 ∷ [])))))) ≡ length a + length b + length c + length d + length e + 1
 five a b c d e = simp length-append (omega arith)
 
-pub line-length : (number who : ℕ) (s : Stepped) (command : List ℕ) → length (stateWord (s .replica)) ≤ stateRoom → length (stepLine number who s command) ≤ lineRoom
+pub line-length : (number who : ℕ) (answer : Answered) (r : Replica) (frame size : ℕ) (command : List ℕ) → length (stateWord r) ≤ stateRoom
+    → length (stepLine number who answer r frame size command) ≤ lineRoom
 unfolding stepLine
-line-length number who s command e =
+line-length number who answer r frame size command e =
     omega (
       arith,
-      five (headWords number who (s .answer)) (counterWords (s .replica)) (stateWord (s .replica)) (sentWord number (s .frame))
-          (commandWord (s .replica .settings .law .p) (s .command) command),
-      head-length number who (s .answer),
-      counters-length (s .replica),
+      five (headWords number who answer) (counterWords r) (stateWord r) (sentWord number frame) (commandWord (r .settings .law .p) size command),
+      head-length number who answer,
+      counters-length r,
       e,
-      sent-length number (s .frame),
-      command-length (s .replica .settings .law .p) (s .command) command,
+      sent-length number frame,
+      command-length (r .settings .law .p) size command,
     )

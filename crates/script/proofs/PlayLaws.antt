@@ -11,6 +11,7 @@ use Rattle.readings.specs.declared.Readings.{Readings}
 use Rattle.lists.specs.Choice.{pick}
 use Rattle.lists.proofs.Booleans.{both, never}
 use Rattle.scram.specs.declared.Answer.the-variants.{Ignored}
+use Rattle.scram.specs.Answers.{answered}
 use Rattle.scram.specs.Events.{ignoring}
 use Rattle.replica.specs.Held.{heldIn}
 use Rattle.frame.specs.Lengths.{longestCommand}
@@ -21,12 +22,12 @@ use Rattle.replica.specs.Frames.{sentBytes}
 use Rattle.replica.specs.Calls.{Outcomes, Gives}
 use Rattle.line.specs.declared.events.Event.{Event}
 use Rattle.line.specs.declared.events.Event.the-variants.{Tick, GiveUp, Deliver, Bad}
-use Rattle.script.specs.declared.play.Turn.{Turn}
+use Rattle.script.specs.declared.play.PlayedLine.{PlayedLine}
 use Rattle.text.specs.Printing.{Puts}
 use Rattle.text.proofs.PrintingLaws.{puts-same}
 use Rattle.line.specs.Frames.{wasSent, keptFrame}
 use Rattle.script.specs.Printing.{badLine, stepLine}
-use Rattle.script.specs.Play.{most, tableLength, lineRoom, boxIn, lineIn, playable, roomy, steppedOf, eventOutcome, afterStep, afterEvent, Leaves}
+use Rattle.script.specs.Play.{most, tableLength, lineRoom, boxIn, lineIn, playable, hasRoom, eventOutcome, afterStep, afterEvent, Leaves}
 use Rattle.bytes.proofs.Areas.{over-length, over-first}
 use Rattle.script.proofs.LineLengths.{bad-length}
 
@@ -52,10 +53,6 @@ module _ {s : Settings} {o : Outcomes} {r : Stepped} {frame frame′ command com
   pub sent-fits : length frame′ ≡ length frame → r .frame ≤ length frame
   sent-fits e = rw (g .frame-length) (over-length (sentBytes (s .law .n) (s .law .m) (o .sent)) frame frame′ (g .frame-bytes) e)
 
-  -- a step gives what its outcome says
-  given : r ≡ steppedOf s o
-  given = λ i. record { answer = g .answer i; replica = g .replica i; frame = g .frame-length i; command = g .command-length i }
-
   first-bytes : take (r .frame) frame′ ≡ sentBytes (s .law .n) (s .law .m) (o .sent)
   first-bytes = ap₂ (λ (n : ℕ) (l : List ℕ). take n l) (g .frame-length) (g .frame-bytes) ∙ over-first (sentBytes (s .law .n) (s .law .m) (o .sent)) frame
 
@@ -64,10 +61,12 @@ pub leaves-step : {s : Settings} {o : Outcomes} {r : Stepped} {frame frame′ co
     → Gives s o r frame frame′ (replicate longestCommand 0) command′
     → table′ ≡ keptFrame table number (take (r .frame) frame′)
     → w ≡ who
-    → Puts text at (stepLine number w r command′) end text′ × (length (stepLine number w r command′) ≤ lineRoom)
+    → Puts text at (stepLine number w (answered (r .answer)) (r .replica) (r .frame) (r .command) command′) end text′ × (length (stepLine number w (answered (r .answer)) (r .replica) (r .frame) (r .command) command′) ≤ lineRoom)
     → Leaves (afterStep who number table lengths s o) at (record { replica = r .replica; end = end }) table′ (set lengths number (r .frame)) text text′
 leaves-step {s} {o} {r} {frame} {frame′} {command′} at w who number table table′ lengths text text′ end g kept e line =
-    let same = ap (λ (k : ℕ). stepLine number k r command′) e ∙ ap₂ (stepLine number who) (given g) (g .command-bytes) in
+    let same =
+    ap (λ (k : ℕ). stepLine number k (answered (r .answer)) (r .replica) (r .frame) (r .command) command′) e
+    ∙ (λ i. stepLine number who (g .answer i) (g .replica i) (g .frame-length i) (g .command-length i) (g .command-bytes i)) in
     record {
       replica = g .replica;
       printed = puts-same same (line .0);
@@ -85,8 +84,8 @@ pub record Room (event : Event) (number table lengths : ℕ) : Type 0 where
   pub frames : tableLength ≤ table
   pub sizes : most + 1 ≤ lengths
 
-pub room : (event : Event) (number table lengths : ℕ) → roomy event number table lengths ≡ true → Room event number table lengths
-unfolding roomy
+pub room : (event : Event) (number table lengths : ℕ) → hasRoom event number table lengths ≡ true → Room event number table lengths
+unfolding hasRoom
 room event number table lengths e =
     let p = both (leb number most) _ e in
     let q = both (leb (boxIn event) 9) _ (p .1) in
@@ -111,15 +110,15 @@ earlier Bad number lengths e h = never e
 
 -- ---- the line
 
-module _ (r : Replica) (event : Event) (y : Readings) (at number : ℕ) (table lengths text text′ : List ℕ) (turn : Turn) where
-  pub leaves-bad : (roomy event number (length table) (length lengths) && playable event number lengths) ≡ false
-      → (turn .replica ≡ r) × Puts text at (badLine number) (turn .end) text′
-      → Leaves (afterEvent r event y number table lengths) at turn table lengths text text′
+module _ (r : Replica) (event : Event) (y : Readings) (at number : ℕ) (table lengths text text′ : List ℕ) (one : PlayedLine) where
+  pub leaves-bad : (hasRoom event number (length table) (length lengths) && playable event number lengths) ≡ false
+      → (one .replica ≡ r) × Puts text at (badLine number) (one .end) text′
+      → Leaves (afterEvent r event y number table lengths) at one table lengths text text′
   unfolding afterEvent pick
   leaves-bad e p = rw e (record { replica = p .0; printed = p .1; short = bad-length number; table = refl; lengths = refl })
 
-  pub leaves-played : {table′ lengths′ : List ℕ} → (roomy event number (length table) (length lengths) && playable event number lengths) ≡ true
-      → Leaves (afterStep (boxIn event) number table lengths (r .settings) (eventOutcome r event y table lengths)) at turn table′ lengths′ text text′
-      → Leaves (afterEvent r event y number table lengths) at turn table′ lengths′ text text′
+  pub leaves-played : {table′ lengths′ : List ℕ} → (hasRoom event number (length table) (length lengths) && playable event number lengths) ≡ true
+      → Leaves (afterStep (boxIn event) number table lengths (r .settings) (eventOutcome r event y table lengths)) at one table′ lengths′ text text′
+      → Leaves (afterEvent r event y number table lengths) at one table′ lengths′ text text′
   unfolding afterEvent pick
   leaves-played e p = rw e p

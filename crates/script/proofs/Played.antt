@@ -10,9 +10,9 @@ use Rattle.line.specs.declared.events.Called.{Called}
 use Rattle.line.specs.Events.{called}
 use Rattle.replica.specs.declared.Replica.{Replica}
 use Rattle.text.proofs.PrintingLaws.{put-within}
-use Rattle.script.specs.declared.play.Turn.{Turn}
+use Rattle.script.specs.declared.play.PlayedLine.{PlayedLine}
 use Rattle.script.specs.Play.{most, tableLength, lineRoom, placeOf, afterEvent, Leaves}
-use Rattle.script.specs.Script.{Left, left, firstLine, behindLine, linesOf, replicaAt, afterCall, played, Prints}
+use Rattle.script.specs.Script.{Left, left, firstLine, afterLine, linesOf, replicaAt, afterCall, played, Prints}
 use Rattle.script.proofs.ScriptLaws.{getD-any, lines-next, prints}
 
 played-next : (boxes m number : ℕ) (l : Left) (line : List ℕ) (lines : List (List ℕ))
@@ -24,21 +24,21 @@ played-none : (boxes m number : ℕ) (l : Left) → played boxes m number l [] �
 unfolding played
 played-none boxes m number l = refl
 
--- what a turn leaves is what the line leaves
+-- what a line played leaves is what the line leaves
 module _ (held : List Replica) (table lengths table′ lengths′ output output′ : List ℕ) (number end place : ℕ) (c : Called) (before : Replica)
-    (turn : Turn) where
-  after-turn : place ≡ placeOf (c .event) → before ≡ replicaAt held place → end + lineRoom ≤ length output
-      → Leaves (afterEvent before (c .event) (c .readings) number table lengths) end turn table′ lengths′ output output′
-      → afterCall (left held table lengths (take end output)) number c ≡ left (set held place (turn .replica)) table′ lengths′ (take (turn .end) output′)
+    (one : PlayedLine) where
+  after-one : place ≡ placeOf (c .event) → before ≡ replicaAt held place → end + lineRoom ≤ length output
+      → Leaves (afterEvent before (c .event) (c .readings) number table lengths) end one table′ lengths′ output output′
+      → afterCall (left held table lengths (take end output)) number c ≡ left (set held place (one .replica)) table′ lengths′ (take (one .end) output′)
   unfolding afterCall
-  after-turn p e room l =
+  after-one p e room l =
       let at : before ≡ replicaAt held (placeOf (c .event)) = e ∙ ap (replicaAt held) p in
-      let k = subst (λ r. Leaves (afterEvent r (c .event) (c .readings) number table lengths) end turn table′ lengths′ output output′) at l in
+      let k = subst (λ r. Leaves (afterEvent r (c .event) (c .readings) number table lengths) end one table′ lengths′ output output′) at l in
       let w = put-within (omega (arith, k .short)) (k .printed) in
       let replicas = ap₂ (λ (i : ℕ) (r : Replica). set held i r) (sym p) (sym (k .replica)) in
       λ i. record { replicas = replicas i; table = sym (k .table) i; lengths = sym (k .lengths) i; printed = sym (w .text) i }
 
--- the first `number` lines of a text were played, behind the first `start` bytes of the output: what is left is at `at`, and what they printed
+-- the first `number` lines of a text were played, after the first `start` bytes of the output: what is left is at `at`, and what they printed
 -- ends at `end`
 pub record Sofar (boxes m start : ℕ) (text output₀ : List ℕ) (whole : Left) (output : List ℕ) (held : List Replica) (table lengths : List ℕ)
     (end at number : ℕ) : Type 0 where
@@ -56,16 +56,16 @@ module _ (boxes m start : ℕ) (text output₀ : List ℕ) (enough : start + lin
     (output : List ℕ) (held : List Replica) (table lengths : List ℕ) (end at number : ℕ)
     (s : Sofar boxes m start text output₀ whole output held table lengths end at number) where
   -- one line more
-  pub one-more : {table′ lengths′ output′ : List ℕ} {turn : Turn} (stop place : ℕ) (c : Called) (before other : Replica)
+  pub one-more : {table′ lengths′ output′ : List ℕ} {one : PlayedLine} (stop place : ℕ) (c : Called) (before other : Replica)
       → number < most → at < length text
       → take (stop - at) (drop at text) ≡ firstLine (drop at text)
-      → drop (stop + 1) text ≡ behindLine (drop at text)
+      → drop (stop + 1) text ≡ afterLine (drop at text)
       → c ≡ called boxes m (take (stop - at) (drop at text))
       → place ≡ placeOf (c .event) → place ≤ 9 → before ≡ getD held place other
       → length table′ ≡ length table → length lengths′ ≡ length lengths → length output′ ≡ length output
-      → Leaves (afterEvent before (c .event) (c .readings) (number + 1) table lengths) end turn table′ lengths′ output output′
-      → Sofar boxes m start text output₀ whole output′ (set held place (turn .replica)) table′ lengths′ (turn .end) (stop + 1) (number + 1)
-  one-more {table′} {lengths′} {output′} {turn} stop place c before other h l first behind ec ep low eb et el eo k =
+      → Leaves (afterEvent before (c .event) (c .readings) (number + 1) table lengths) end one table′ lengths′ output output′
+      → Sofar boxes m start text output₀ whole output′ (set held place (one .replica)) table′ lengths′ (one .end) (stop + 1) (number + 1)
+  one-more {table′} {lengths′} {output′} {one} stop place c before other h l first following ec ep low eb et el eo k =
       let size = s .same in
       let room = s .room in
       let w = put-within (omega (arith, k .short)) (k .printed) in
@@ -73,10 +73,10 @@ module _ (boxes m start : ℕ) (text output₀ : List ℕ) (enough : start + lin
       let now : Left = left held table lengths (take end output) in
       let call : called boxes m (firstLine (drop at text)) ≡ c = ap (called boxes m) (sym first) ∙ sym ec in
       let there = eb ∙ getD-any held place other _ (omega (arith, s .ten)) in
-      let after = after-turn held table lengths table′ lengths′ output output′ (number + 1) end place c before turn ep there (omega arith) k in
+      let after = after-one held table lengths table′ lengths′ output output′ (number + 1) end place c before one ep there (omega arith) k in
       record {
         early = omega arith;
-        ten = length-set held place (turn .replica) ∙ s .ten;
+        ten = length-set held place (one .replica) ∙ s .ten;
         frames = et ∙ s .frames;
         sizes = el ∙ s .sizes;
         same = eo ∙ s .same;
@@ -88,10 +88,10 @@ module _ (boxes m start : ℕ) (text output₀ : List ℕ) (enough : start + lin
             ∙ ap (played boxes m number now) (lines-next (most - (number + 1)) text at l)
             ∙ played-next boxes m number now (firstLine (drop at text)) _
             ∙ ap₂ (λ (t : Left) (u : List ℕ). played boxes m (number + 1) t (linesOf (most - (number + 1)) u))
-            (ap (afterCall now (number + 1)) call ∙ after) (sym behind);
+            (ap (afterCall now (number + 1)) call ∙ after) (sym following);
         rest =
-            let k : ℕ = turn .end - end in
-            let e : turn .end ≡ end + k = omega (arith, w .count) in
+            let k : ℕ = one .end - end in
+            let e : one .end ≡ end + k = omega (arith, w .count) in
             w .rest
             ∙ ap (λ (n : ℕ). drop n output) e
             ∙ sym (drop-drop k end output)

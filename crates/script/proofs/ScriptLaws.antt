@@ -1,4 +1,4 @@
--- Laws of a script's lines, one byte and one line after the other, and of what is printed behind them. Assumes nothing.
+-- Laws of a script's lines, one byte and one line after the other, and of what is printed after them. Assumes nothing.
 use mathlib.Core.Path.{_≡_, refl, sym, ap, _∙_, subst}
 use mathlib.Core.List.{List, [], _∷_, _++_, append-assoc}
 use Prim.Native.Nat.{ℕ, zero, suc, _+_, _-_, _≤_, _<_}
@@ -11,7 +11,7 @@ use Rattle.lists.specs.Choice.{pick}
 use Rattle.lists.proofs.Parts.{drop-beyond}
 use Rattle.text.specs.Printing.{Puts}
 use Rattle.text.proofs.PrintingLaws.{put-within, put-whole}
-use Rattle.script.specs.Script.{firstLine, behindLine, linesOf, Prints}
+use Rattle.script.specs.Script.{firstLine, afterLine, linesOf, Prints}
 
 -- what stands at a place that is there
 pub getD-any : {A : Type 0} (l : List A) (i : ℕ) (d e : A) → i < length l → getD l i d ≡ getD l i e
@@ -32,31 +32,31 @@ line-more text from i f h n =
     rw (d, take-suc (drop from text) (i - from) 0 l, getD-drop, at, drop-cons text i 0 h, ne-eqb _ _ n, add-one)
     (sym (append-assoc (take (i - from) (drop from text)) _ _))
 
-pub behind-more : (text : List ℕ) (i : ℕ) → i < length text → (getD text i 0 ≡ 10 → ⊥) → behindLine (drop i text) ≡ behindLine (drop (i + 1) text)
-unfolding behindLine pick
-behind-more text i h n = rw (add-one, drop-cons text i 0 h, ne-eqb _ _ n)
+pub line-end-more : (text : List ℕ) (i : ℕ) → i < length text → (getD text i 0 ≡ 10 → ⊥) → afterLine (drop i text) ≡ afterLine (drop (i + 1) text)
+unfolding afterLine pick
+line-end-more text i h n = rw (add-one, drop-cons text i 0 h, ne-eqb _ _ n)
 
--- the line feed behind it
+-- the line feed after it
 pub line-feed : (text : List ℕ) (i : ℕ) → i < length text → getD text i 0 ≡ 10 → firstLine (drop i text) ≡ []
 unfolding firstLine pick
 line-feed text i h e = rw (drop-cons text i 0 h, eq-eqb _ _ e)
 
-pub behind-feed : (text : List ℕ) (i : ℕ) → i < length text → getD text i 0 ≡ 10 → drop (i + 1) text ≡ behindLine (drop i text)
-unfolding behindLine pick
-behind-feed text i h e = rw (add-one, drop-cons text i 0 h, eq-eqb _ _ e)
+pub line-end-feed : (text : List ℕ) (i : ℕ) → i < length text → getD text i 0 ≡ 10 → drop (i + 1) text ≡ afterLine (drop i text)
+unfolding afterLine pick
+line-end-feed text i h e = rw (add-one, drop-cons text i 0 h, eq-eqb _ _ e)
 
 -- the text's end
 pub line-none : (text : List ℕ) (i : ℕ) → length text ≤ i → firstLine (drop i text) ≡ []
 unfolding firstLine
 line-none text i h = rw (drop-beyond text i h)
 
-pub behind-none : (text : List ℕ) (i : ℕ) → length text ≤ i → drop (i + 1) text ≡ behindLine (drop i text)
-unfolding behindLine
-behind-none text i h = rw (drop-beyond text i h) (drop-beyond text (i + 1) (omega arith))
+pub line-end-none : (text : List ℕ) (i : ℕ) → length text ≤ i → drop (i + 1) text ≡ afterLine (drop i text)
+unfolding afterLine
+line-end-none text i h = rw (drop-beyond text i h) (drop-beyond text (i + 1) (omega arith))
 
 -- ---- the lines
 
-pub lines-next : (k : ℕ) (text : List ℕ) (i : ℕ) → i < length text → linesOf (suc k) (drop i text) ≡ firstLine (drop i text) ∷ linesOf k (behindLine (drop i text))
+pub lines-next : (k : ℕ) (text : List ℕ) (i : ℕ) → i < length text → linesOf (suc k) (drop i text) ≡ firstLine (drop i text) ∷ linesOf k (afterLine (drop i text))
 unfolding linesOf
 lines-next k text i h = rw (drop-cons text i 0 h)
 
@@ -88,9 +88,9 @@ pub prints-same : {printed printed′ area area′ : List ℕ} {r : ℕ} → pri
 prints-same {printed} {printed′} {area} {area′} {r} e p = subst (λ (t : List ℕ). Prints t r area area′) e p
 
 -- of an area to whose start something was put before
-pub prints-behind : (printed : List ℕ) (r start : ℕ) (first area area₁ area′ : List ℕ) → Puts area 0 first start area₁ → length first ≤ length area
+pub prints-after : (printed : List ℕ) (r start : ℕ) (first area area₁ area′ : List ℕ) → Puts area 0 first start area₁ → length first ≤ length area
     → Prints printed r area₁ area′ → start ≤ r → Prints printed r area area′
-prints-behind printed r start first area area₁ area′ p h q l =
+prints-after printed r start first area area₁ area′ p h q l =
     let w = put-within (omega arith) p in
     let k : ℕ = length printed - start in
     let e : length printed ≡ start + k = omega (arith, q .count) in

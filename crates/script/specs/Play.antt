@@ -13,13 +13,12 @@ use Rattle.text.specs.Printing.{Puts}
 use Rattle.frame.specs.Lengths.{longestFrame, longestCommand}
 use Rattle.replica.specs.declared.Settings.{Settings}
 use Rattle.replica.specs.declared.Replica.{Replica}
-use Rattle.replica.specs.declared.Stepped.{Stepped}
 use Rattle.replica.specs.Held.{heldIn, heldOf}
 use Rattle.replica.specs.Frames.{sentBytes, issuedBytes}
 use Rattle.replica.specs.Calls.{Outcomes, tickOutcome, giveUpOutcome, arriveOutcome, made}
 use Rattle.line.specs.declared.events.Event.{Event}
 use Rattle.line.specs.declared.events.Event.the-variants.{Tick, GiveUp, Deliver, Bad}
-use Rattle.script.specs.declared.play.Turn.{Turn}
+use Rattle.script.specs.declared.play.PlayedLine.{PlayedLine}
 use Rattle.line.specs.Frames.{slot, wasSent, frameOf, keptFrame}
 use Rattle.script.specs.Printing.{badLine, stepLine}
 
@@ -57,8 +56,8 @@ abbrev pub tableLength : ℕ
 tableLength = slot * (most + 1)
 
 -- and there are replicas for the boxes up to 9
-unfoldable pub roomy : Event → ℕ → ℕ → ℕ → Bool
-roomy event number table lengths = leb number most && (leb (boxIn event) 9 && (leb tableLength table && leb (most + 1) lengths))
+unfoldable pub hasRoom : Event → ℕ → ℕ → ℕ → Bool
+hasRoom event number table lengths = leb number most && (leb (boxIn event) 9 && (leb tableLength table && leb (most + 1) lengths))
 
 -- what an event does at a replica that is lent areas so long; bytes are those of the frame delivered
 unfoldable pub outcomeOf : Replica → Event → Readings → List ℕ → ℕ → ℕ → Outcomes
@@ -66,15 +65,6 @@ outcomeOf r (Tick at) y bytes frame command = tickOutcome r y frame command
 outcomeOf r (GiveUp at) y bytes frame command = giveUpOutcome r frame command
 outcomeOf r (Deliver at f) y bytes frame command = arriveOutcome r bytes frame command
 outcomeOf r Bad y bytes frame command = ignoring (heldIn (r .held))
-
--- what a step gives of such an outcome
-abbrev pub steppedOf : Settings → Outcomes → Stepped
-steppedOf s o = record {
-  answer = o .answer;
-  replica = record { settings = s; held = heldOf (o .held) };
-  frame = length (sentBytes (s .law .n) (s .law .m) (o .sent));
-  command = length (issuedBytes (s .law .p) (o .command));
-}
 
 -- what a line leaves: the replica of its box, what is printed, the table of frames and the list of their lengths
 pub record After : Type 0 where
@@ -91,7 +81,9 @@ afterBad r number table lengths = record { replica = r; printed = badLine number
 abbrev pub afterStep : ℕ → ℕ → List ℕ → List ℕ → Settings → Outcomes → After
 afterStep at number table lengths s o = record {
   replica = record { settings = s; held = heldOf (o .held) };
-  printed = stepLine number at (steppedOf s o) (over (issuedBytes (s .law .p) (o .command)) (replicate longestCommand 0));
+  printed =
+      stepLine number at (o .answer) (record { settings = s; held = heldOf (o .held) }) (length (sentBytes (s .law .n) (s .law .m) (o .sent)))
+      (length (issuedBytes (s .law .p) (o .command))) (over (issuedBytes (s .law .p) (o .command)) (replicate longestCommand 0));
   table = keptFrame table number (sentBytes (s .law .n) (s .law .m) (o .sent));
   lengths = set lengths number (length (sentBytes (s .law .n) (s .law .m) (o .sent)));
 }
@@ -103,7 +95,7 @@ eventOutcome r event y table lengths = outcomeOf r event y (frameOf table (lineI
 -- what the line of an event leaves, at the replica of its box
 unfoldable pub afterEvent : Replica → Event → Readings → ℕ → List ℕ → List ℕ → After
 afterEvent r event y number table lengths =
-    pick (roomy event number (length table) (length lengths) && playable event number lengths)
+    pick (hasRoom event number (length table) (length lengths) && playable event number lengths)
     (afterStep (boxIn event) number table lengths (r .settings) (eventOutcome r event y table lengths))
     (afterBad r number table lengths)
 
@@ -115,8 +107,8 @@ stateRoom = 73
 abbrev pub lineRoom : ℕ
 lineRoom = 256
 
--- a turn, and the lent areas at its end, are what a line leaves: it is printed behind the first `at` bytes of the text
-pub record Leaves (a : After) (at : ℕ) (r : Turn) (table′ lengths′ text text′ : List ℕ) : Type 0 where
+-- a line played, and the lent areas at its end, are what a line leaves: it is printed after the first `at` bytes of the text
+pub record Leaves (a : After) (at : ℕ) (r : PlayedLine) (table′ lengths′ text text′ : List ℕ) : Type 0 where
   pub replica : r .replica ≡ a .replica
   pub printed : Puts text at (a .printed) (r .end) text′
   pub short : length (a .printed) ≤ lineRoom

@@ -6,11 +6,9 @@ use lib.ListN.{take}
 use lib.Dec.{eqb}
 use Rattle.lists.specs.Choice.{pick}
 use Rattle.text.specs.Printing.{decimal, listed}
-use Rattle.scram.specs.declared.Answer.{Answer}
-use Rattle.scram.specs.declared.Answer.the-variants.{Done, Ignored, Refused}
+use Rattle.scram.specs.Answers.{Answered, Done, Ignored, Refused}
 use Rattle.frame.specs.Command.{commandValues}
 use Rattle.replica.specs.declared.Replica.{Replica}
-use Rattle.replica.specs.declared.Stepped.{Stepped}
 
 -- "A header line comes first": `no who answer k v vb kb x frame command`
 unfoldable pub headerLine : List ℕ
@@ -31,37 +29,38 @@ unfoldable pub badLine : ℕ → List ℕ
 badLine number = decimal number ++ (32 ∷ 98 ∷ 97 ∷ 100 ∷ 10 ∷ [])
 
 -- "answer (`ok`, `ignored`, or `r` and the number, as `r9`)"
-unfoldable pub answerWord : Answer → List ℕ
+unfoldable pub answerWord : Answered → List ℕ
 answerWord Done = 111 ∷ 107 ∷ []
 answerWord Ignored = 105 ∷ 103 ∷ 110 ∷ 111 ∷ 114 ∷ 101 ∷ 100 ∷ []
 answerWord (Refused number) = 114 ∷ decimal number
 
 -- "line, box, answer"
-unfoldable pub headWords : ℕ → ℕ → Answer → List ℕ
+unfoldable pub headWords : ℕ → ℕ → Answered → List ℕ
 headWords number who answer = decimal number ++ ((32 ∷ decimal who) ++ (32 ∷ answerWord answer))
 
--- "period, view, base view, base period", each behind a space
+-- "period, view, base view, base period", each after a space
 unfoldable pub counterWords : Replica → List ℕ
 counterWords r =
     (32 ∷ decimal (r .held .period)) ++ ((32 ∷ decimal (r .held .view)) ++ ((32 ∷ decimal (r .held .«base_view»)) ++ (32 ∷ decimal (r .held .«base_period»))))
 
--- "state", behind a space
+-- "state", after a space
 unfoldable pub stateWord : Replica → List ℕ
 stateWord r = 32 ∷ listed (take (r .settings .law .n) (r .held .estimate .state))
 
--- "line number if a frame was sent", behind a space; "`-` stands where there is no frame"
+-- "line number if a frame was sent", after a space; "`-` stands where there is no frame"
 unfoldable pub sentWord : ℕ → ℕ → List ℕ
 sentWord number size = 32 ∷ pick (eqb size 0) (45 ∷ []) (decimal number)
 
--- "command", behind a space; "`-` stands where there is no .. command"
+-- "command", after a space; "`-` stands where there is no .. command"
 unfoldable pub commandWord : ℕ → ℕ → List ℕ → List ℕ
 commandWord p size command = 32 ∷ pick (eqb size 0) (45 ∷ []) (listed (take p (commandValues command)))
 
--- the line of a step: its number, the box, what the step gave, and the command area after it
-unfoldable pub stepLine : ℕ → ℕ → Stepped → List ℕ → List ℕ
-stepLine number who s command =
-    headWords number who (s .answer)
-    ++ (counterWords (s .replica)
-    ++ (stateWord (s .replica)
-    ++ (sentWord number (s .frame)
-    ++ (commandWord (s .replica .settings .law .p) (s .command) command ++ (10 ∷ [])))))
+-- the line of a step: its number, the box, the answer, the replica that comes back, the length of the frame sent, that of the command, and
+-- the command area then
+unfoldable pub stepLine : ℕ → ℕ → Answered → Replica → ℕ → ℕ → List ℕ → List ℕ
+stepLine number who answer r frame size command =
+    headWords number who answer
+    ++ (counterWords r
+    ++ (stateWord r
+    ++ (sentWord number frame
+    ++ (commandWord (r .settings .law .p) size command ++ (10 ∷ [])))))

@@ -27,16 +27,16 @@ unfoldable pub firstLine : List ℕ → List ℕ
 firstLine [] = []
 firstLine (b ∷ bs) = pick (eqb b 10) [] (b ∷ firstLine bs)
 
--- what stands behind it
-unfoldable pub behindLine : List ℕ → List ℕ
-behindLine [] = []
-behindLine (b ∷ bs) = pick (eqb b 10) bs (behindLine bs)
+-- what stands after it
+unfoldable pub afterLine : List ℕ → List ℕ
+afterLine [] = []
+afterLine (b ∷ bs) = pick (eqb b 10) bs (afterLine bs)
 
 -- the lines of a text, at most k of them: "A last line may lack its line feed."
 unfoldable pub linesOf : ℕ → List ℕ → List (List ℕ)
 linesOf zero text = []
 linesOf (suc k) [] = []
-linesOf (suc k) (b ∷ bs) = firstLine (b ∷ bs) ∷ linesOf k (behindLine (b ∷ bs))
+linesOf (suc k) (b ∷ bs) = firstLine (b ∷ bs) ∷ linesOf k (afterLine (b ∷ bs))
 
 -- ---- what they leave
 
@@ -59,7 +59,7 @@ unplayed s = left (freshBoxes s) (replicate tableLength 0) (replicate (most + 1)
 abbrev pub replicaAt : List Replica → ℕ → Replica
 replicaAt replicas place = getD replicas place (made blankSettings)
 
--- one line more, of this number, that calls for c: its box has the replica then that the line leaves, and what the line prints is printed behind
+-- one line more, of this number, that calls for c: its box has the replica then that the line leaves, and what the line prints is printed after
 unfoldable pub afterCall : Left → ℕ → Called → Left
 afterCall l number c =
     let a = afterEvent (replicaAt (l .replicas) (placeOf (c .event))) (c .event) (c .readings) number (l .table) (l .lengths) in
@@ -70,7 +70,7 @@ afterCall l number c =
       printed = l .printed ++ a .printed;
     }
 
--- what the lines of a script leave, in a group of so many boxes with m readings, the first of them behind `number` others
+-- what the lines of a script leave, in a group of so many boxes with m readings, the first of them after `number` others
 unfoldable pub played : (boxes m number : ℕ) → Left → List (List ℕ) → Left
 played boxes m number l [] = l
 played boxes m number l (line ∷ lines) = played boxes m (suc number) (afterCall l (suc number) (called boxes m line)) lines
@@ -89,17 +89,17 @@ benchOutput text = leftBy bench text .printed
 unfoldable pub groupOutput : Settings → List ℕ → List ℕ
 groupOutput s text = pick (eqb (settingsRefusal s) 0) (leftBy s text .printed) (refusalLine (settingsRefusal s))
 
--- what it prints of a first line: `bad` or the refusal of its sizes alone, or what the group that it describes prints of the lines behind
+-- what it prints of a first line: `bad` or the refusal of its sizes alone, or what the group that it describes prints of the lines after
 unfoldable pub openedOutput : Opening → Settings → List ℕ → List ℕ
 openedOutput Bad s text = badAlone
 openedOutput (Refused number) s text = refusalLine number
 openedOutput Ready s text = groupOutput s text
 
--- what program `rig` prints of the text on its standard input: the first line describes a group, and the lines behind are played
+-- what program `rig` prints of the text on its standard input: the first line describes a group, and the lines after are played
 unfoldable pub rigOutput : List ℕ → List ℕ
 rigOutput text =
     let o = openedBy (firstLine text) (sizesIn (firstLine text)) in
-    openedOutput (o .opening) (o .settings) (behindLine text)
+    openedOutput (o .opening) (o .settings) (afterLine text)
 
 -- no script prints more: the header line, and `most` lines
 abbrev pub outputRoom : ℕ

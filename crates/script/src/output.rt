@@ -3,7 +3,7 @@ ghost use mathlib.Core.Path.{_≡_};
 ghost use Prim.Native.Nat.{_+_, _-_, _*_, _≤_};
 ghost use lib.ListN.{length, take, drop};
 ghost use Rattle.script.specs.Play.{most, tableLength, lineRoom};
-ghost use Rattle.script.specs.Script.{firstLine, behindLine, linesOf, left, played, leftBy, groupOutput, openedOutput, benchOutput, rigOutput, outputRoom, Prints};
+ghost use Rattle.script.specs.Script.{firstLine, afterLine, linesOf, left, played, leftBy, groupOutput, openedOutput, benchOutput, rigOutput, outputRoom, Prints};
 use crate::play::LENGTHS;
 use crate::play::MOST;
 use crate::play::TABLE;
@@ -29,7 +29,7 @@ pub const OUTPUT: usize = 128040;
 fn line_end(text: &[u8], from: usize) -> usize
     requires { ⌜ from ≤ length (now text) ⌝ }
     ensures { λ r. ⌜ (from ≤ r) × (r ≤ length (now (text .entry))) × (take (r - from) (drop from (now (text .entry))) ≡ firstLine (drop from (now (text .entry))))
-        × (drop (r + 1) (now (text .entry)) ≡ behindLine (drop from (now (text .entry)))) ⌝ }
+        × (drop (r + 1) (now (text .entry)) ≡ afterLine (drop from (now (text .entry)))) ⌝ }
 {
     let mut i = from;
     while i < text.len() {
@@ -41,7 +41,7 @@ fn line_end(text: &[u8], from: usize) -> usize
     i
 }
 
-// Plays the lines of a text behind the first `start` bytes of the output.
+// Plays the lines of a text after the first `start` bytes of the output.
 fn play_lines(
     replicas: [Replica; 10],
     boxes: u8,
@@ -71,7 +71,7 @@ fn play_lines(
         let event = called.event;
         let readings = called.readings;
         let place = place_of(event);
-        let turn = play(
+        let one = play(
             held[place],
             event,
             readings,
@@ -81,9 +81,9 @@ fn play_lines(
             output,
             end,
         );
-        let next = turn.replica;
+        let next = one.replica;
         held[place] = next;
-        end = turn.end;
+        end = one.end;
         at = stop + 1;
     }
     end
@@ -143,8 +143,8 @@ fn opened(opening: Opening, settings: Settings, text: &[u8], output: &mut [u8]) 
     }
 }
 
-// The text behind the line that ends at `stop`.
-fn behind(text: &[u8], stop: usize) -> &[u8]
+// The text after the line that ends at `stop`.
+fn after_line(text: &[u8], stop: usize) -> &[u8]
     ensures { λ r. ⌜ now r ≡ drop (stop + 1) (now (text .entry)) ⌝ }
 {
     if text.len() <= stop {
@@ -152,6 +152,14 @@ fn behind(text: &[u8], stop: usize) -> &[u8]
     }
     let at = stop + 1;
     &text[at..]
+}
+
+// The first line of a text.
+pub fn first_line(text: &[u8]) -> &[u8]
+    ensures { λ r. ⌜ now r ≡ firstLine (now (text .entry)) ⌝ }
+{
+    let stop = line_end(text, 0);
+    &text[0..stop]
 }
 
 // What program rig prints of its standard input.
@@ -162,5 +170,5 @@ pub fn rig(text: &[u8], output: &mut [u8; OUTPUT]) -> usize
     let first = open(&text[0..stop]);
     let opening = first.opening;
     let settings = first.settings;
-    opened(opening, settings, behind(text, stop), output)
+    opened(opening, settings, after_line(text, stop), output)
 }

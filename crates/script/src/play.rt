@@ -5,7 +5,7 @@ ghost use lib.ListN.{length};
 ghost use Rattle.replica.specs.Calls.{Gives};
 ghost use Rattle.text.specs.Printing.{Puts};
 ghost use Rattle.script.specs.Printing.{badLine};
-ghost use Rattle.script.specs.Play.{most, tableLength, boxIn, lineIn, playable, roomy, placeOf, outcomeOf, eventOutcome, afterStep, afterEvent, Leaves, freshBox, freshBoxes};
+ghost use Rattle.script.specs.Play.{most, tableLength, boxIn, lineIn, playable, hasRoom, placeOf, outcomeOf, eventOutcome, afterStep, afterEvent, Leaves, freshBox, freshBoxes};
 use crate::printing::bad_line;
 use crate::printing::step_line;
 use frame::lengths::LONGEST_COMMAND;
@@ -28,7 +28,7 @@ pub(crate) const TABLE: usize = 34569;
 pub(crate) const LENGTHS: usize = 501;
 
 // What a line leaves: the replica of its box, and where the text that was printed ends.
-pub(crate) struct Turn {
+pub(crate) struct PlayedLine {
     pub(crate) replica: Replica,
     pub(crate) end: usize,
 }
@@ -96,7 +96,7 @@ fn is_playable(event: Event, number: u32, lengths: &[usize]) -> bool
 
 // Whether there is room for the line's frame, and a place for its box.
 fn has_room(event: Event, number: u32, table: usize, lengths: usize) -> bool
-    ensures { λ r. ⌜ r ≡ roomy event number table lengths ⌝ }
+    ensures { λ r. ⌜ r ≡ hasRoom event number table lengths ⌝ }
 {
     if MOST < number {
         return false;
@@ -111,11 +111,11 @@ fn has_room(event: Event, number: u32, table: usize, lengths: usize) -> bool
 }
 
 // A line that is none of the format, or delivers a frame that was not sent.
-fn bad(replica: Replica, number: u32, text: &mut [u8], at: usize) -> Turn
+fn bad(replica: Replica, number: u32, text: &mut [u8], at: usize) -> PlayedLine
     ensures { λ r. ⌜ (r .replica ≡ replica) × Puts (now (text .entry)) at (badLine number) (r .end) (now (text .exit)) ⌝ }
 {
     let end = bad_line(text, at, number);
-    Turn { replica, end }
+    PlayedLine { replica, end }
 }
 
 // The event of a line that can be played, at the replica of its box.
@@ -128,7 +128,7 @@ fn play_event(
     lengths: &mut [usize],
     text: &mut [u8],
     at: usize,
-) -> Turn
+) -> PlayedLine
     requires { ⌜ (lineIn event ≤ most) × (number ≤ most) × (tableLength ≤ length (now table)) × (most + 1 ≤ length (now lengths)) ⌝ }
     ensures { λ r. ⌜ Leaves (afterStep (boxIn event) number (now (table .entry)) (now (lengths .entry)) (replica .settings)
         (eventOutcome replica event readings (now (table .entry)) (now (lengths .entry)))) at r (now (table .exit)) (now (lengths .exit)) (now (text .entry)) (now (text .exit)) ⌝ }
@@ -150,7 +150,7 @@ fn play_event(
     lengths[number as usize] = sent;
     let next = s.replica;
     let end = step_line(text, at, number, box_of(event), s, &command);
-    Turn { replica: next, end }
+    PlayedLine { replica: next, end }
 }
 
 // The line of an event played, at the replica of its box.
@@ -163,7 +163,7 @@ pub(crate) fn play(
     lengths: &mut [usize],
     text: &mut [u8],
     at: usize,
-) -> Turn
+) -> PlayedLine
     ensures { λ r. ⌜ Leaves (afterEvent replica event readings number (now (table .entry)) (now (lengths .entry)))
         at r (now (table .exit)) (now (lengths .exit)) (now (text .entry)) (now (text .exit)) ⌝ }
 {

@@ -4,6 +4,7 @@ ghost use Prim.Native.Nat.{_≤_};
 ghost use lib.ListN.{length};
 ghost use Rattle.text.specs.Printing.{Puts, decimal};
 ghost use Rattle.script.specs.Play.{lineRoom, stateRoom};
+ghost use Rattle.scram.specs.Answers.{answered};
 ghost use Rattle.script.specs.Printing.{headerLine, badAlone, refusalLine, badLine, answerWord, headWords, counterWords, stateWord, sentWord, commandWord, stepLine};
 use replica::Replica;
 use replica::Stepped;
@@ -53,7 +54,7 @@ fn put_refusal(text: &mut [u8], at: usize, number: u8) -> usize
 }
 
 fn put_answer(text: &mut [u8], at: usize, answer: Answer) -> usize
-    ensures { λ r. ⌜ Puts (now (text .entry)) at (answerWord answer) r (now (text .exit)) ⌝ }
+    ensures { λ r. ⌜ Puts (now (text .entry)) at (answerWord (answered answer)) r (now (text .exit)) ⌝ }
 {
     match answer {
         Answer::Done => put_word(text, at, b"ok"),
@@ -72,7 +73,7 @@ fn put_counter(text: &mut [u8], at: usize, n: u32) -> usize
 
 // The line number, the box and the answer.
 fn put_head(text: &mut [u8], at: usize, number: u32, who: u8, answer: Answer) -> usize
-    ensures { λ r. ⌜ Puts (now (text .entry)) at (headWords number who answer) r (now (text .exit)) ⌝ }
+    ensures { λ r. ⌜ Puts (now (text .entry)) at (headWords number who (answered answer)) r (now (text .exit)) ⌝ }
 {
     let at = put_decimal(text, at, number);
     let at = put_counter(text, at, who as u32);
@@ -132,8 +133,8 @@ pub(crate) fn step_line(
     s: Stepped,
     command: &[u8],
 ) -> usize
-    ensures { λ r. ⌜ Puts (now (text .entry)) at (stepLine number who s (now (command .entry))) r (now (text .exit))
-        × (length (stepLine number who s (now (command .entry))) ≤ lineRoom) ⌝ }
+    ensures { λ r. ⌜ Puts (now (text .entry)) at (stepLine number who (answered (s .answer)) (s .replica) (s .frame) (s .command) (now (command .entry))) r (now (text .exit))
+        × (length (stepLine number who (answered (s .answer)) (s .replica) (s .frame) (s .command) (now (command .entry))) ≤ lineRoom) ⌝ }
 {
     let replica = s.replica;
     let answer = s.answer;

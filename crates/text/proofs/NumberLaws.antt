@@ -55,7 +55,7 @@ pub spelled-ends : (n : ℕ) (digits : List ℕ) (i : ℕ) → i ≡ length digi
 unfolding spelled pick
 spelled-ends n digits i e = rw (e, drop-length)
 
--- ---- behind a minus
+-- ---- after a minus
 
 pub below-zero : (n : ℕ) → (n ≡ 0 → ⊥) → n ≤ 2147483648 → negsuc 0 -ℤ toZ w32 (n - 1) ≡ negsuc (n - 1)
 below-zero n z h = let l : n - 1 < 2147483648 = omega (arith, z) in ap (λ (k : ℤ). negsuc 0 -ℤ k) (toZ-pos w32 (n - 1) l) ∙ minus-pos (n - 1)

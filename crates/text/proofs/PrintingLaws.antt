@@ -21,7 +21,7 @@ use Rattle.lists.specs.Places.{entry}
 use Rattle.lists.proofs.Parts.{first-in-use}
 use Rattle.lists.proofs.Choice.{pick-true, pick-false}
 use Rattle.bytes.proofs.TwosComplement.{minus-negsuc, natural}
-use Rattle.text.specs.Printing.{with, Puts, digitsBefore, decimal, signed, behindCommas, listed}
+use Rattle.text.specs.Printing.{with, Puts, digitsBefore, decimal, signed, afterCommas, listed}
 
 -- ---- what is put, as far as there is room
 
@@ -30,7 +30,7 @@ take-most zero l = omega arith
 take-most (suc n) [] = omega arith
 take-most (suc n) (x ∷ xs) = let h = take-most n xs in omega arith
 
--- more behind more
+-- more after more
 with-with : (room : ℕ) (a b c : List ℕ) → with room (with room a b) c ≡ with room a (b ++ c)
 unfolding with
 with-with room a b c = by (decLe (length (a ++ b)) room)
@@ -60,14 +60,14 @@ with-more room a b h = by (decLe (length (a ++ b)) room)
     by (no l) = omega (arith, length-take-le room (a ++ b) (omega (arith, l)))
 
 -- bytes w at the start of an area, then W, which begins with them
-behind-both : (w q : List ℕ) (r₁ r₂ : ℕ) → length w ≡ r₁ → r₁ ≤ r₂ → drop r₂ (w ++ drop r₁ q) ≡ drop r₂ q
-behind-both w q r₁ r₂ e h =
+after-both : (w q : List ℕ) (r₁ r₂ : ℕ) → length w ≡ r₁ → r₁ ≤ r₂ → drop r₂ (w ++ drop r₁ q) ≡ drop r₂ q
+after-both w q r₁ r₂ e h =
     let k : ℕ = r₂ - r₁ in
     let at : r₂ ≡ length w + k = omega arith in
     let back : r₁ + k ≡ r₂ = omega arith in
     ap (λ (n : ℕ). drop n (w ++ drop r₁ q)) at ∙ drop-append-add w (drop r₁ q) k ∙ drop-drop k r₁ q ∙ ap (λ (n : ℕ). drop n q) back
 
--- a call behind a call
+-- a call after a call
 pub then-puts : {l l₁ l₂ : List ℕ} {i r₁ r₂ : ℕ} {xs ys : List ℕ} → Puts l i xs r₁ l₁ → Puts l₁ r₁ ys r₂ l₂ → Puts l i (xs ++ ys) r₂ l₂
 then-puts {l} {l₁} {l₂} {i} {r₁} {r₂} {xs} {ys} p q =
     let n : ℕ = length l in
@@ -85,7 +85,7 @@ then-puts {l} {l₁} {l₂} {i} {r₁} {r₂} {xs} {ys} p q =
           q .bytes
           ∙ ap (λ (t : List ℕ). t ++ drop r₂ l₁) both
           ∙ ap (λ (t : List ℕ). with n (take i l) (xs ++ ys) ++ t)
-          (ap (drop r₂) (p .bytes) ∙ behind-both w l r₁ r₂ (sym (p .count)) grown);
+          (ap (drop r₂) (p .bytes) ∙ after-both w l r₁ r₂ (sym (p .count)) grown);
     }
 
 -- it ends within the area
@@ -146,7 +146,7 @@ put-whole {area} {area′} {more} {r} h p =
     let size : r ≡ length more = p .count ∙ ap length all in
     record { count = size; bytes = p .bytes ∙ ap (λ (t : List ℕ). t ++ drop r area) all ∙ ap (λ (k : ℕ). more ++ drop k area) size }
 
--- what was put behind the first bytes of an area that has room for it
+-- what was put after the first bytes of an area that has room for it
 pub record Within (area : List ℕ) (at : ℕ) (more : List ℕ) (r : ℕ) (area′ : List ℕ) : Type 0 where
   pub count : r ≡ at + length more
   pub text : take r area′ ≡ take at area ++ more
@@ -173,13 +173,13 @@ digit-more bytes k d e h =
     let l : k < length bytes = omega arith in
     rw (drop-cons (set bytes k d) k 0 (rw length-set l), getD-set-same bytes k d 0 l, drop-set-lt (suc k) bytes k d (omega arith))
 
-pub last-digit : (k rest : ℕ) (behind : List ℕ) → rest < 10 → digitsBefore (suc k) rest behind ≡ (48 + rest % 10) ∷ behind
+pub last-digit : (k rest : ℕ) (tail : List ℕ) → rest < 10 → digitsBefore (suc k) rest tail ≡ (48 + rest % 10) ∷ tail
 unfolding digitsBefore
-last-digit k rest behind h = pick-true (ltb rest 10) _ _ (lt-ltb rest 10 h)
+last-digit k rest tail h = pick-true (ltb rest 10) _ _ (lt-ltb rest 10 h)
 
-pub more-digits : (k rest : ℕ) (behind : List ℕ) → 10 ≤ rest → digitsBefore (suc k) rest behind ≡ digitsBefore k (rest / 10) ((48 + rest % 10) ∷ behind)
+pub more-digits : (k rest : ℕ) (tail : List ℕ) → 10 ≤ rest → digitsBefore (suc k) rest tail ≡ digitsBefore k (rest / 10) ((48 + rest % 10) ∷ tail)
 unfolding digitsBefore
-more-digits k rest behind h = pick-false (ltb rest 10) _ _ (le-ltb rest 10 h)
+more-digits k rest tail h = pick-false (ltb rest 10) _ _ (le-ltb rest 10 h)
 
 -- the first digit
 pub digits-last : (bytes : List ℕ) (i rest d : ℕ) (written : List ℕ) → length bytes ≡ 10 → i ≤ 10 → 0 < i → rest < 10 → d ≡ 48 + rest % 10
@@ -235,18 +235,18 @@ pub signed-from-zero : (z : ℤ) → SFits w32 z → ltZ (toZ w32 (ofZ w32 z)) (
 unfolding signed
 signed-from-zero z s e = let k = natural z s (rw (toZ-ofZ w32 z s) at e) in rw (toZ-ofZ w32 z s, k .same)
 
--- ---- numbers behind commas
+-- ---- numbers after commas
 
 pub commas-more : (values : List ℤ) (i : ℕ) → i < length values
-    → behindCommas (take (i + 1) values) ≡ behindCommas (take i values) ++ (44 ∷ signed (entry values i))
-unfolding behindCommas
+    → afterCommas (take (i + 1) values) ≡ afterCommas (take i values) ++ (44 ∷ signed (entry values i))
+unfolding afterCommas
 commas-more [] i h = absurd (omega arith)
 commas-more (z ∷ zs) zero h = append-nil (44 ∷ signed z)
 commas-more (z ∷ zs) (suc i) h =
     let e : suc i + 1 ≡ suc (i + 1) = omega arith in
     rw e (ap (λ (t : List ℕ). (44 ∷ signed z) ++ t) (commas-more zs i (omega arith)) ∙ sym (append-assoc (44 ∷ signed z) _ _))
 
-pub listed-some : (values : List ℤ) → 0 < length values → signed (entry values 0) ++ behindCommas (drop 1 values) ≡ listed values
+pub listed-some : (values : List ℤ) → 0 < length values → signed (entry values 0) ++ afterCommas (drop 1 values) ≡ listed values
 unfolding listed
 listed-some [] h = absurd (omega arith)
 listed-some (z ∷ zs) h = refl

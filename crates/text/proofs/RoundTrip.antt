@@ -35,47 +35,47 @@ record Leads (l : List ℕ) (n : ℕ) : Type 0 where
 fewer : (k n : ℕ) → n < 10 ^ suc k → n / 10 < 10 ^ k
 fewer k n h = omega (arith, pow-suc 10 k)
 
-leads : (k n : ℕ) (behind : List ℕ) → n < 10 ^ k → 0 < k → Leads (digitsBefore k n behind) n
-leads zero n behind h s = absurd (omega arith)
-leads (suc k) n behind h s = by (ltb n 10) refl (λ p. leads k (n / 10) ((48 + n % 10) ∷ behind) (fewer k n h) p)
+leads : (k n : ℕ) (tail : List ℕ) → n < 10 ^ k → 0 < k → Leads (digitsBefore k n tail) n
+leads zero n tail h s = absurd (omega arith)
+leads (suc k) n tail h s = by (ltb n 10) refl (λ p. leads k (n / 10) ((48 + n % 10) ∷ tail) (fewer k n h) p)
   where
     some : (j : ℕ) → k ≡ j → 10 ≤ n → 0 < k
     some zero e l = absurd (let q : 10 ^ k ≡ 1 = rw e in omega (arith, fewer k n h))
     some (suc j) e l = omega arith
 
-    by : (t : Bool) → ltb n 10 ≡ t → (0 < k → Leads (digitsBefore k (n / 10) ((48 + n % 10) ∷ behind)) (n / 10)) → Leads (digitsBefore (suc k) n behind) n
+    by : (t : Bool) → ltb n 10 ≡ t → (0 < k → Leads (digitsBefore k (n / 10) ((48 + n % 10) ∷ tail)) (n / 10)) → Leads (digitsBefore (suc k) n tail) n
     by true e more =
         let l = ltb-true n 10 e in
-        record { d = n % 10; rest = behind; is = last-digit k n behind l; small = omega arith; lead = λ m. omega arith }
+        record { d = n % 10; rest = tail; is = last-digit k n tail l; small = omega arith; lead = λ m. omega arith }
     by false e more =
         let l = ltb-false n 10 e in
         let r = more (some k refl l) in
-        record { d = r .d; rest = r .rest; is = more-digits k n behind l ∙ r .is; small = r .small; lead = λ m. r .lead (omega arith) }
+        record { d = r .d; rest = r .rest; is = more-digits k n tail l ∙ r .is; small = r .small; lead = λ m. r .lead (omega arith) }
 
 goes-on : (n d : ℕ) → d < 10 → 10 * n + d ≤ 2147483648 → goesOn n (48 + d) ≡ true
 unfolding goesOn isDigit
 goes-on n d h l = rw (le-leb 48 (48 + d) (omega arith), le-leb (48 + d) 57 (omega arith), le-leb (10 * n + (48 + d - 48)) 2147483648 (omega arith))
 
-spelled-one : (n d v : ℕ) (behind : List ℕ) → d < 10 → 10 * n + d ≡ v → v ≤ 2147483648 → spelled n ((48 + d) ∷ behind) ≡ spelled v behind
+spelled-one : (n d v : ℕ) (tail : List ℕ) → d < 10 → 10 * n + d ≡ v → v ≤ 2147483648 → spelled n ((48 + d) ∷ tail) ≡ spelled v tail
 unfolding spelled pick
-spelled-one n d v behind h e l =
+spelled-one n d v tail h e l =
     let s : 10 * n + (48 + d - 48) ≡ v = omega arith in
     rw (goes-on n d h (omega arith), s)
 
 -- the digits of n spell n
-spelled-digits : (k n : ℕ) (behind : List ℕ) → n < 10 ^ k → n ≤ 2147483648 → spelled 0 (digitsBefore k n behind) ≡ spelled n behind
+spelled-digits : (k n : ℕ) (tail : List ℕ) → n < 10 ^ k → n ≤ 2147483648 → spelled 0 (digitsBefore k n tail) ≡ spelled n tail
 unfolding digitsBefore
-spelled-digits zero n behind h l = let e : n ≡ 0 = omega arith in rw e
-spelled-digits (suc k) n behind h l = by (ltb n 10) refl (spelled-digits k (n / 10) ((48 + n % 10) ∷ behind) (fewer k n h) (omega arith))
+spelled-digits zero n tail h l = let e : n ≡ 0 = omega arith in rw e
+spelled-digits (suc k) n tail h l = by (ltb n 10) refl (spelled-digits k (n / 10) ((48 + n % 10) ∷ tail) (fewer k n h) (omega arith))
   where
-    by : (t : Bool) → ltb n 10 ≡ t → spelled 0 (digitsBefore k (n / 10) ((48 + n % 10) ∷ behind)) ≡ spelled (n / 10) ((48 + n % 10) ∷ behind)
-        → spelled 0 (digitsBefore (suc k) n behind) ≡ spelled n behind
+    by : (t : Bool) → ltb n 10 ≡ t → spelled 0 (digitsBefore k (n / 10) ((48 + n % 10) ∷ tail)) ≡ spelled (n / 10) ((48 + n % 10) ∷ tail)
+        → spelled 0 (digitsBefore (suc k) n tail) ≡ spelled n tail
     by true e more =
         let s = ltb-true n 10 e in
-        ap (spelled 0) (last-digit k n behind s) ∙ spelled-one 0 (n % 10) n behind (omega arith) (omega arith) l
+        ap (spelled 0) (last-digit k n tail s) ∙ spelled-one 0 (n % 10) n tail (omega arith) (omega arith) l
     by false e more =
         let s = ltb-false n 10 e in
-        ap (spelled 0) (more-digits k n behind s) ∙ more ∙ spelled-one (n / 10) (n % 10) n behind (omega arith) (omega arith) l
+        ap (spelled 0) (more-digits k n tail s) ∙ more ∙ spelled-one (n / 10) (n % 10) n tail (omega arith) (omega arith) l
 
 first : (n : ℕ) → n ≤ 2147483648 → Leads (decimal n) n
 unfolding decimal
@@ -124,7 +124,7 @@ reads-printed (negsuc k) s =
 other : (n : ℕ) {X : Type 0} → Other ≡ Digits n → X
 other n e = absurd (let z : _≡_ {A = ℕ} 0 1 = cc in omega arith)
 
--- what digits behind n spell: the first of them goes on
+-- what digits after n spell: the first of them goes on
 record Next (n b : ℕ) (bs : List ℕ) (v : ℕ) : Type 0 where
   goes : Goes n b
   rest : spelled (10 * n + (b - 48)) bs ≡ Digits v
@@ -177,21 +177,21 @@ some-digits zero n h s = absurd (omega arith)
 some-digits (suc k) n h s = omega arith
 
 -- enough digits are enough
-same-digits : (k j n : ℕ) (behind : List ℕ) → n < 10 ^ k → n < 10 ^ j → 0 < k → 0 < j → digitsBefore k n behind ≡ digitsBefore j n behind
-same-digits zero j n behind h l s t = absurd (omega arith)
-same-digits (suc k) zero n behind h l s t = absurd (omega arith)
-same-digits (suc k) (suc j) n behind h l s t =
-    by (ltb n 10) refl (λ p q. same-digits k j (n / 10) ((48 + n % 10) ∷ behind) (fewer k n h) (fewer j n l) p q)
+same-digits : (k j n : ℕ) (tail : List ℕ) → n < 10 ^ k → n < 10 ^ j → 0 < k → 0 < j → digitsBefore k n tail ≡ digitsBefore j n tail
+same-digits zero j n tail h l s t = absurd (omega arith)
+same-digits (suc k) zero n tail h l s t = absurd (omega arith)
+same-digits (suc k) (suc j) n tail h l s t =
+    by (ltb n 10) refl (λ p q. same-digits k j (n / 10) ((48 + n % 10) ∷ tail) (fewer k n h) (fewer j n l) p q)
   where
     by : (t : Bool) → ltb n 10 ≡ t
-        → (0 < k → 0 < j → digitsBefore k (n / 10) ((48 + n % 10) ∷ behind) ≡ digitsBefore j (n / 10) ((48 + n % 10) ∷ behind))
-        → digitsBefore (suc k) n behind ≡ digitsBefore (suc j) n behind
-    by true e more = let m = ltb-true n 10 e in last-digit k n behind m ∙ sym (last-digit j n behind m)
+        → (0 < k → 0 < j → digitsBefore k (n / 10) ((48 + n % 10) ∷ tail) ≡ digitsBefore j (n / 10) ((48 + n % 10) ∷ tail))
+        → digitsBefore (suc k) n tail ≡ digitsBefore (suc j) n tail
+    by true e more = let m = ltb-true n 10 e in last-digit k n tail m ∙ sym (last-digit j n tail m)
     by false e more =
         let m = ltb-false n 10 e in
-        more-digits k n behind m
+        more-digits k n tail m
         ∙ more (some-digits k (n / 10) (fewer k n h) (omega arith)) (some-digits j (n / 10) (fewer j n l) (omega arith))
-        ∙ sym (more-digits j n behind m)
+        ∙ sym (more-digits j n tail m)
 
 -- digits with no needless zero
 spelled-printed : (b : ℕ) (bs : List ℕ) (v : ℕ) → 48 < b → spelled 0 (b ∷ bs) ≡ Digits v → b ∷ bs ≡ decimal v

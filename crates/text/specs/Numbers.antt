@@ -16,11 +16,11 @@ use Rattle.text.specs.declared.numbers.Magnitude.the-variants.{Digits, O
 unfoldable pub isDigit : ℕ → Bool
 isDigit b = leb 48 b && leb b 57
 
--- b is a digit, and behind digits that spell n it spells no more than 2147483648, the largest size of an i32
+-- b is a digit, and after digits that spell n it spells no more than 2147483648, the largest size of an i32
 unfoldable pub goesOn : ℕ → ℕ → Bool
 goesOn n b = isDigit b && leb (10 * n + (b - 48)) 2147483648
 
--- the number that digits spell behind digits that spell n
+-- the number that digits spell after digits that spell n
 unfoldable pub spelled : ℕ → List ℕ → Magnitude
 spelled n [] = Digits n
 spelled n (b ∷ bs) = pick (goesOn n b) (spelled (10 * n + (b - 48)) bs) Other
@@ -37,7 +37,7 @@ magnitude digits = pick (wellBegun digits) (spelled 0 digits) Other
 unfoldable pub isMinus : List ℕ → Bool
 isMinus field = ltb 0 (length field) && eqb (getD field 0 0) 45
 
--- the number behind a minus: "zero without a minus", and from -2147483648 on
+-- the number after a minus: "zero without a minus", and from -2147483648 on
 unfoldable pub negative : Magnitude → Number
 negative (Digits zero) = Malformed
 negative (Digits (suc k)) = pick (leb (suc k) 2147483648) (Whole (negsuc k)) Malformed

@@ -81,7 +81,7 @@ fn read_magnitude(digits: &[u8]) -> Magnitude
     Magnitude::Other
 }
 
-// A number behind a minus.
+// A number after a minus.
 fn below_zero(m: Magnitude) -> Number
     ensures { λ r. ⌜ r ≡ negative m ⌝ }
 {

@@ -4,7 +4,7 @@ ghost use mathlib.Core.Path.{_≡_};
 ghost use mathlib.Core.List.{[], _∷_};
 ghost use Prim.Native.Nat.{_+_, _%_, _≤_, min};
 ghost use lib.ListN.{drop};
-ghost use Rattle.text.specs.Printing.{Puts, decimal as Printing·decimal, signed as Printing·signed, behindCommas, listed};
+ghost use Rattle.text.specs.Printing.{Puts, decimal as Printing·decimal, signed as Printing·signed, afterCommas, listed};
 
 // n, or the number of places where that is less.
 pub fn at_most(n: usize, places: usize) -> usize
@@ -97,9 +97,9 @@ fn put_next(text: &mut [u8], at: usize, z: i32) -> usize
     put_signed(text, at, z)
 }
 
-// Numbers, each behind a comma.
-fn put_behind_commas(text: &mut [u8], at: usize, values: &[i32]) -> usize
-    ensures { λ r. ⌜ Puts (now (text .entry)) at (behindCommas (now (values .entry))) r (now (text .exit)) ⌝ }
+// Numbers, each after a comma.
+fn put_after_commas(text: &mut [u8], at: usize, values: &[i32]) -> usize
+    ensures { λ r. ⌜ Puts (now (text .entry)) at (afterCommas (now (values .entry))) r (now (text .exit)) ⌝ }
 {
     let mut end = at_most(at, text.len());
     let mut i = 0;
@@ -119,5 +119,5 @@ pub fn put_list(text: &mut [u8], at: usize, values: &[i32]) -> usize
         return at_most(at, text.len());
     }
     let at = put_signed(text, at, values[0]);
-    put_behind_commas(text, at, &values[1..])
+    put_after_commas(text, at, &values[1..])
 }

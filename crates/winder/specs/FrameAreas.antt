@@ -12,11 +12,11 @@ use Rattle.winder.specs.Areas.{unlessRefused}
 use Rattle.winder.specs.LawAreas.{readingsOf}
 
 -- the frame in a caller's areas: kind and sender; period, view, base view and base period; the state; the readings
-abbrev pub frameOf : (ends counters : List ℕ) (state : List ℤ) (present : List ℕ) (values : List ℤ) → Frame
-frameOf ends counters state present values =
+abbrev pub frameOf : (kindAndSender counters : List ℕ) (state : List ℤ) (present : List ℕ) (values : List ℤ) → Frame
+frameOf kindAndSender counters state present values =
     record {
-      kind = getD ends 0 0;
-      sender = getD ends 1 0;
+      kind = getD kindAndSender 0 0;
+      sender = getD kindAndSender 1 0;
       period = getD counters 0 0;
       view = getD counters 1 0;
       «base_view» = getD counters 2 0;
@@ -25,8 +25,8 @@ frameOf ends counters state present values =
     }
 
 -- "0 kind ..; 1 sender"
-abbrev pub endsOf : Frame → List ℕ
-endsOf f = f .kind ∷ f .sender ∷ []
+abbrev pub kindAndSenderOf : Frame → List ℕ
+kindAndSenderOf f = f .kind ∷ f .sender ∷ []
 
 -- "4 period; 8 view; 12 base view; 16 base period"
 abbrev pub countersOf : Frame → List ℕ

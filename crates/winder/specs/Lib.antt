@@ -1,3 +1,4 @@
+pub mod Version
 pub mod Areas
 pub mod LawAreas
 pub mod FrameAreas

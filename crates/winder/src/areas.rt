@@ -8,7 +8,7 @@ use frame::Frame;
 use readings::Readings;
 
 // A mark is present where it is not 0.
-pub(crate) fn readings_of(present: &[u8; 4], values: &[i32; 4]) -> Readings
+pub fn readings_of(present: &[u8; 4], values: &[i32; 4]) -> Readings
     ensures { λ r. ⌜ r ≡ readingsOf (now (present .entry)) (now (values .entry)) ⌝ }
 {
     let marks = [
@@ -25,20 +25,20 @@ pub(crate) fn readings_of(present: &[u8; 4], values: &[i32; 4]) -> Readings
 }
 
 pub(crate) fn frame_of(
-    ends: &[u8; 2],
+    kind_and_sender: &[u8; 2],
     counters: &[u32; 4],
     state: &[i32; 6],
     present: &[u8; 4],
     values: &[i32; 4],
 ) -> Frame
-    ensures { λ r. ⌜ r ≡ frameOf (now (ends .entry)) (now (counters .entry)) (now (state .entry)) (now (present .entry)) (now (values .entry)) ⌝ }
+    ensures { λ r. ⌜ r ≡ frameOf (now («kind_and_sender» .entry)) (now (counters .entry)) (now (state .entry)) (now (present .entry)) (now (values .entry)) ⌝ }
 {
     let readings = readings_of(present, values);
     let state = *state;
     let estimate = Estimate { state, readings };
     Frame {
-        kind: ends[0],
-        sender: ends[1],
+        kind: kind_and_sender[0],
+        sender: kind_and_sender[1],
         period: counters[0],
         view: counters[1],
         base_view: counters[2],
@@ -47,14 +47,14 @@ pub(crate) fn frame_of(
     }
 }
 
-fn mark_byte(mark: bool) -> u8
+pub fn mark_byte(mark: bool) -> u8
     ensures { λ r. ⌜ r ≡ bit mark ⌝ }
 {
     if mark { 1 } else { 0 }
 }
 
 // 1 for a present reading, else 0.
-pub(crate) fn marks_of(readings: Readings) -> [u8; 4]
+pub fn marks_of(readings: Readings) -> [u8; 4]
     ensures { λ r. ⌜ r ≡ marksOf readings ⌝ }
 {
     let present = readings.present;

@@ -1,5 +1,7 @@
 // The law and the frames for C programs. include/winder.h declares the functions.
 mod answers;
-mod areas;
+pub mod areas;
+pub mod command_calls;
 pub mod frame_calls;
 pub mod law_calls;
+pub mod version;

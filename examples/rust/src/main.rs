@@ -2,12 +2,13 @@
 
 mod law;
 
-use law::{Law, State};
+use law::State;
+use winder::Settings;
 
 /// The law of document 01's bench: one state, one reading, one command. The state moves half way
 /// to each reading.
-fn bench_law() -> Law {
-    let mut law = Law {
+fn bench_law() -> Settings {
+    let mut law = Settings {
         n: 1,
         m: 1,
         p: 1,
@@ -26,9 +27,9 @@ fn bench_law() -> Law {
 }
 
 /// One period: the state after it and its command.
-fn period(law: &Law, state: State, reading: Option<i32>) -> Result<(State, i32), u32> {
-    let next = law.update(state, [reading, None, None, None])?;
-    let commands = law.command(next)?;
+fn period(law: &Settings, state: State, reading: Option<i32>) -> Result<(State, i32), u32> {
+    let next = law::update(law, state, [reading, None, None, None])?;
+    let commands = law::command(law, next)?;
     Ok((next, commands[0]))
 }
 
@@ -37,7 +38,7 @@ fn shown(reading: Option<i32>) -> String {
 }
 
 /// What one period prints, and the state after it; a refused one leaves the state.
-fn print_period(number: usize, law: &Law, state: State, reading: Option<i32>) -> State {
+fn print_period(number: usize, law: &Settings, state: State, reading: Option<i32>) -> State {
     let reading_shown = shown(reading);
     match period(law, state, reading) {
         Ok((next, command)) => {

@@ -2,6 +2,7 @@
 
 use second::frame::Frame;
 use second::law::Readings;
+pub use winder::Frame as Fields;
 
 /// What an output area holds before a call, in every byte.
 pub const PATTERN: u8 = 0xA5;
@@ -25,53 +26,39 @@ impl Sizes {
     }
 }
 
-/// What a frame says.
-#[derive(Clone, Copy, Debug, PartialEq, Eq)]
-pub struct Fields {
-    /// Kind and sender.
-    pub ends: [u8; 2],
-    /// Period, view, base view and base period.
-    pub counters: [u32; 4],
-    pub state: [i32; 6],
-    pub present: [u8; 4],
-    pub values: [i32; 4],
+pub fn pattern() -> Fields {
+    Fields {
+        kind_and_sender: [PATTERN; 2],
+        counters: [PATTERN_32; 4],
+        state: [PATTERN_32 as i32; 6],
+        present: [PATTERN; 4],
+        values: [PATTERN_32 as i32; 4],
+    }
 }
 
-impl Fields {
-    pub fn pattern() -> Fields {
-        Fields {
-            ends: [PATTERN; 2],
-            counters: [PATTERN_32; 4],
-            state: [PATTERN_32 as i32; 6],
-            present: [PATTERN; 4],
-            values: [PATTERN_32 as i32; 4],
-        }
+pub fn of_frame(frame: &Frame) -> Fields {
+    let mark = |j: usize| u8::from(frame.readings.is_present(j));
+    Fields {
+        kind_and_sender: [frame.kind, frame.sender],
+        counters: [frame.period, frame.view, frame.base_view, frame.base_period],
+        state: frame.state,
+        present: [mark(0), mark(1), mark(2), mark(3)],
+        values: frame.readings.values,
     }
+}
 
-    pub fn of_frame(frame: &Frame) -> Fields {
-        let mark = |j: usize| u8::from(frame.readings.is_present(j));
-        Fields {
-            ends: [frame.kind, frame.sender],
-            counters: [frame.period, frame.view, frame.base_view, frame.base_period],
-            state: frame.state,
-            present: [mark(0), mark(1), mark(2), mark(3)],
-            values: frame.readings.values,
-        }
-    }
-
-    pub fn to_frame(self) -> Frame {
-        let [kind, sender] = self.ends;
-        let [period, view, base_view, base_period] = self.counters;
-        Frame {
-            kind,
-            sender,
-            period,
-            view,
-            base_view,
-            base_period,
-            state: self.state,
-            readings: row(&self.present, &self.values),
-        }
+pub fn to_frame(fields: &Fields) -> Frame {
+    let [kind, sender] = fields.kind_and_sender;
+    let [period, view, base_view, base_period] = fields.counters;
+    Frame {
+        kind,
+        sender,
+        period,
+        view,
+        base_view,
+        base_period,
+        state: fields.state,
+        readings: row(&fields.present, &fields.values),
     }
 }
 

@@ -1,10 +1,10 @@
-//! The second implementation, under the signatures of `winder`.
+//! The second implementation, under the signatures of `first`.
 
 use second::frame;
 use second::law::{self, Settings};
 use second::refusal::Refusal;
 
-use crate::areas::{row, Fields, Sizes};
+use crate::areas::{of_frame, row, to_frame, Fields, Sizes};
 
 /// The answer's number; what is given goes to its area where nothing is
 /// refused.
@@ -18,7 +18,7 @@ fn answer<T>(result: Result<T, Refusal>, area: &mut T) -> u32 {
     }
 }
 
-fn sized(sizes: Sizes, settings: &Settings) -> Settings {
+pub fn sized(sizes: Sizes, settings: &Settings) -> Settings {
     let [n, m, p] = sizes.narrow();
     Settings {
         n,
@@ -53,10 +53,10 @@ pub fn command(
 pub fn read(sizes: Sizes, bytes: &[u8], fields: &mut Fields) -> u32 {
     let [n, m, _] = sizes.narrow();
     let frame = frame::read(n, m, bytes);
-    answer(frame.map(|frame| Fields::of_frame(&frame)), fields)
+    answer(frame.map(|frame| of_frame(&frame)), fields)
 }
 
 pub fn write(sizes: Sizes, fields: &Fields, area: &mut [u8], length: &mut usize) -> u32 {
     let [n, m, _] = sizes.narrow();
-    answer(frame::write(n, m, &fields.to_frame(), area), length)
+    answer(frame::write(n, m, &to_frame(fields), area), length)
 }

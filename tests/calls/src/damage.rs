@@ -23,7 +23,7 @@ pub enum Damage {
     Overlap,
     PartLength,
     PairNumber,
-    StrayMark,
+    MarkBeyond,
     AbsentValue,
 }
 
@@ -43,7 +43,7 @@ pub const NAMES: [(Damage, &str); 16] = [
     (Damage::Overlap, "parts that overlap"),
     (Damage::PartLength, "a longer or shorter part"),
     (Damage::PairNumber, "an offset or length off by 1"),
-    (Damage::StrayMark, "a mark at or above m"),
+    (Damage::MarkBeyond, "a mark at or above m"),
     (Damage::AbsentValue, "an absent value not 0"),
 ];
 
@@ -68,7 +68,8 @@ pub fn make(prng: &mut Prng, n: usize, m: usize) -> Made {
         false => &[PROPOSE, ACK, DECIDE, ESTIMATE],
     };
     let kind = prng.pick(kinds);
-    let bytes = damaged(prng, NAMES[damage].0, kind, n, m);
+    let draft = Draft::whole(prng, kind, n, m);
+    let bytes = damaged(prng, NAMES[damage].0, draft, n, m);
     Made {
         kind,
         damage,
@@ -76,8 +77,16 @@ pub fn make(prng: &mut Prng, n: usize, m: usize) -> Made {
     }
 }
 
-fn damaged(prng: &mut Prng, damage: Damage, kind: u8, n: usize, m: usize) -> Vec<u8> {
-    let mut draft = Draft::whole(prng, kind, n, m);
+/// Any damage that a frame of this kind can take.
+pub fn for_kind(prng: &mut Prng, kind: u8) -> Damage {
+    let takes = |(damage, _): &&(Damage, &str)| kind != ACK || *damage < Damage::OtherSizes;
+    let count = NAMES.iter().filter(takes).count();
+    NAMES[1 + prng.below(count - 1)].0
+}
+
+/// The bytes of a frame for these sizes, with this damage done to it.
+pub fn damaged(prng: &mut Prng, damage: Damage, mut draft: Draft, n: usize, m: usize) -> Vec<u8> {
+    let kind = draft.header[0];
     match damage {
         Damage::None => {}
         Damage::ByteChanged => return byte_changed(prng, draft.bytes()),
@@ -93,7 +102,7 @@ fn damaged(prng: &mut Prng, damage: Damage, kind: u8, n: usize, m: usize) -> Vec
         Damage::Overlap => overlap(prng, &mut draft),
         Damage::PartLength => stretch(prng, &mut draft),
         Damage::PairNumber => change_pair(prng, &mut draft),
-        Damage::StrayMark => draft.parts[1][0] |= 1 << (m + prng.below(8 - m)),
+        Damage::MarkBeyond => draft.parts[1][0] |= 1 << (m + prng.below(8 - m)),
         Damage::AbsentValue => leave_absent_value(prng, &mut draft, m),
     }
     draft.bytes()
@@ -163,7 +172,7 @@ fn swap_parts(prng: &mut Prng, draft: &mut Draft) {
 }
 
 /// A few bytes of no part, ahead of the state's part or of the readings'; the
-/// offsets behind them are right.
+/// offsets after them are right.
 fn leave_gap(prng: &mut Prng, draft: &mut Draft) {
     let gap = vec![byte(prng); 1 + prng.below(4)];
     let width = gap.len() as u16;

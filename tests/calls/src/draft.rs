@@ -32,6 +32,14 @@ impl Draft {
         draft
     }
 
+    /// Another sender, and other counters from the period on.
+    pub fn set_header(&mut self, sender: u8, counters: [u32; 4]) {
+        self.header[1] = sender;
+        for (place, counter) in self.header[4..].chunks_exact_mut(4).zip(counters) {
+            place.copy_from_slice(&counter.to_le_bytes());
+        }
+    }
+
     /// The pairs that fit the parts as they stand.
     pub fn pair_anew(&mut self) {
         self.pairs.clear();

@@ -4,16 +4,19 @@
 use std::env;
 use std::process::Command;
 
-use second::fault::{Fault, FRAME_NAMES, LAW_NAMES, VARIABLE};
+use second::fault::{Fault, FRAME_NAMES, LAW_NAMES, NAMES, STEP_NAMES, VARIABLE};
 
-use crate::{frames, law};
+use crate::{frames, law, steps};
 
 const MOST_CALLS: usize = 100_000;
 
 /// Prints the table; an error if a fault was not found.
 pub fn table(seed: u64) -> Result<(), String> {
     println!("{:<26}first difference", "fault");
-    let all_found = rows(seed, "frames", &FRAME_NAMES)? & rows(seed, "law", &LAW_NAMES)?;
+    let all_found = rows(seed, "frames", &FRAME_NAMES)?
+        & rows(seed, "law", &LAW_NAMES)?
+        & rows(seed, "steps", &NAMES)?
+        & rows(seed, "steps", &STEP_NAMES)?;
     match all_found {
         true => Ok(()),
         false => Err("a planted fault was not found".to_string()),
@@ -53,7 +56,10 @@ pub fn search(calls: &str, seed: u64) -> Result<(), String> {
             |seed, number| frames::compare(seed, number, &mut frames::Counts::default()).is_err()
         }
         "law" => |seed, number| law::compare(seed, number, &mut law::Counts::default()).is_err(),
-        _ => return Err(format!("{calls}: neither frames nor law")),
+        "steps" => {
+            |seed, number| steps::compare(seed, number, &mut steps::Counts::default()).is_err()
+        }
+        _ => return Err(format!("{calls}: neither frames nor law nor steps")),
     };
     match (1..=MOST_CALLS).find(|&number| differs(seed, number)) {
         Some(number) => println!("{number}"),

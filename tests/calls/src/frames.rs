@@ -2,14 +2,14 @@
 
 use std::fmt;
 
-use crate::areas::{Fields, Sizes, PATTERN};
+use crate::areas::{pattern, Fields, Sizes, PATTERN};
 use crate::damage::{self, Made, LONGEST};
 use crate::prng::Prng;
 use crate::report::{alike, write_answers, write_row, Answers};
 use crate::values::{byte, counter, mark, noise, perhaps_outside, sizes, value};
-use crate::{counterpart, winder};
+use crate::{counterpart, first};
 
-/// Longer than any area lent, so that a byte written behind one shows.
+/// Longer than any area lent, so that a byte written after one shows.
 const BUFFER: usize = LONGEST + 16;
 
 /// What a call of writing leaves behind.
@@ -55,11 +55,11 @@ pub fn compare(seed: u64, number: usize, counts: &mut Counts) -> Result<(), Stri
 
 fn read_by_both(sizes: Sizes, bytes: &[u8]) -> Result<(u32, Fields), String> {
     let given = |read: fn(_, &_, &mut _) -> u32| {
-        let mut fields = Fields::pattern();
+        let mut fields = pattern();
         let answer = read(sizes, bytes, &mut fields);
         (answer, fields)
     };
-    let (first, second) = (given(winder::read), given(counterpart::read));
+    let (first, second) = (given(first::read), given(counterpart::read));
     alike(first, second, &("read", sizes, bytes))
 }
 
@@ -81,7 +81,7 @@ fn written_by_both(sizes: Sizes, fields: &Fields, length: usize) -> Result<Writt
         written.answer = write(sizes, fields, area, &mut written.length);
         written
     };
-    let (first, second) = (given(winder::write), given(counterpart::write));
+    let (first, second) = (given(first::write), given(counterpart::write));
     let written = alike(first, second, &("write", sizes, fields, length))?;
     match written.answer == 0 || written.is_untouched() {
         true => Ok(written),
@@ -113,7 +113,7 @@ fn any_fields(prng: &mut Prng, m: usize) -> Fields {
         false => 1 + prng.below(4) as u8,
     };
     let mut fields = Fields {
-        ends: [kind, byte(prng)],
+        kind_and_sender: [kind, byte(prng)],
         counters: [(); 4].map(|()| counter(prng)),
         state: [(); 6].map(|()| value(prng)),
         present: [(); 4].map(|()| mark(prng)),

@@ -7,7 +7,7 @@ use crate::law_call::{self, LawCall};
 use crate::prng::Prng;
 use crate::reach::Reach;
 use crate::report::{alike, write_answers, Answers};
-use crate::{counterpart, winder};
+use crate::{counterpart, first};
 
 #[derive(Debug, Default)]
 pub struct Counts {
@@ -45,7 +45,7 @@ fn update_by_both(call: &LawCall) -> Result<u32, String> {
         let answer = update(*sizes, settings, present, values, &mut state);
         (answer, state)
     };
-    let (first, second) = (given(winder::update), given(counterpart::update));
+    let (first, second) = (given(first::update), given(counterpart::update));
     alike(first, second, &("update", call)).map(|(answer, _)| answer)
 }
 
@@ -55,7 +55,7 @@ fn command_by_both(call: &LawCall) -> Result<u32, String> {
         let answer = command(call.sizes, &call.settings, &call.state, &mut commands);
         (answer, commands)
     };
-    let (first, second) = (given(winder::command), given(counterpart::command));
+    let (first, second) = (given(first::command), given(counterpart::command));
     alike(first, second, &("command", call)).map(|(answer, _)| answer)
 }
 

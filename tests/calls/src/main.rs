@@ -1,14 +1,20 @@
-//! Compares frames and law calls of the first implementation, through its
-//! static library `winder`, with the second implementation of document 01.
+//! Compares frames, law calls and steps of the first implementation, through
+//! its static libraries `winder` and `steps`, with the second implementation
+//! of document 01.
 
-#![deny(unsafe_code)]
+#![forbid(unsafe_code)]
 
 mod areas;
+#[cfg(test)]
+mod commands;
 mod counterpart;
 mod damage;
 mod draft;
+mod events;
 mod faults;
+mod first;
 mod frames;
+mod handed_in;
 mod law;
 mod law_call;
 // Its shuffle has no use here.
@@ -17,9 +23,11 @@ mod law_call;
 mod prng;
 mod reach;
 mod report;
+mod step_areas;
+mod step_counts;
+mod step_tables;
+mod steps;
 mod values;
-#[allow(unsafe_code)]
-mod winder;
 
 use std::fmt::Display;
 use std::process::ExitCode;
@@ -28,8 +36,9 @@ use std::{env, str::FromStr};
 const USAGE: &str = "usage:
   calls frames COUNT SEED
   calls law COUNT SEED
+  calls steps COUNT SEED
   calls faults SEED
-  calls search frames|law SEED
+  calls search frames|law|steps SEED
 
 The last is for this program's own use, with a fault planted.";
 
@@ -49,6 +58,7 @@ fn run(words: &[&str]) -> Result<(), String> {
     match words {
         ["frames", count, seed] => compare("frames", frames::compare, count, seed),
         ["law", count, seed] => compare("law calls", law::compare, count, seed),
+        ["steps", count, seed] => compare("steps", steps::compare, count, seed),
         ["faults", seed] => faults::table(number(seed)?),
         ["search", calls, seed] => {
             second::fault::plant_from_environment()?;

@@ -57,7 +57,7 @@ fn written_lines(prng: &mut Prng, group: Group, counts: &mut Counts) -> Vec<Vec<
     let mut lines = course.writer.lines;
     counts.lines += lines.len();
     if too_many {
-        // What stands behind line 500 must not be read.
+        // What stands after line 500 must not be read.
         lines.extend(vec![b"G 2".to_vec(); 1 + prng.below(3)]);
     }
     lines
@@ -217,7 +217,7 @@ impl<'a> Course<'a> {
         }
     }
 
-    /// The boxes that are there tick; those behind may make up for it.
+    /// The boxes that are there tick; those after may make up for it.
     fn tick_all(&mut self) {
         let due = self.writer.newest_period() + 1;
         for place in self.writer.places() {
@@ -264,7 +264,7 @@ impl<'a> Course<'a> {
 
     fn is_lost(&mut self, sent: usize, place: usize, loss: usize) -> bool {
         let parted = self.parted > 0 && self.sides[self.writer.sender(sent)] != self.sides[place];
-        // Acks behind the majority are ignored; most are left out, for the
+        // Acks after the majority are ignored; most are left out, for the
         // sake of more periods in a script.
         let needless = self.writer.is_ack(sent) && self.writer.replicas[place].decided;
         self.is_away(place) || parted || self.chance(loss) || needless && self.chance(70)

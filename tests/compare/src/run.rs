@@ -66,6 +66,8 @@ impl Programs {
             .env(fault::VARIABLE, self.fault)
             .stdin(Stdio::piped())
             .stdout(Stdio::piped())
+            // What rig says there of a first line is not compared.
+            .stderr(Stdio::null())
             .spawn()
             .map_err(|error| failed(error.to_string()))?;
         let output = talk(&mut child, &script.input).map_err(failed)?;
@@ -83,8 +85,8 @@ fn talk(child: &mut Child, input: &[u8]) -> Result<Vec<u8>, String> {
     let mut to_child = child.stdin.take().ok_or("no standard input")?;
     let mut from_child = child.stdout.take().ok_or("no standard output")?;
     thread::scope(|scope| {
-        // A program may end before it has read all: behind a first line that
-        // makes no group, and behind line 500.
+        // A program may end before it has read all: after a first line that
+        // makes no group, and after line 500.
         scope.spawn(move || drop(to_child.write_all(input)));
         let mut output = Vec::new();
         match from_child.read_to_end(&mut output) {

@@ -15,7 +15,7 @@ use crate::prng::Prng;
 
 /// How often, of a hundred lines, something out of order follows.
 #[derive(Clone, Copy, Default)]
-pub struct Strays {
+pub struct Disturbances {
     pub malformed: usize,
     pub doubled: usize,
     pub late: usize,
@@ -52,7 +52,7 @@ pub struct Writer<'a> {
     pub stopped: Vec<bool>,
     group: Group,
     limit: usize,
-    strays: Strays,
+    disturbances: Disturbances,
     rows: Rows,
     /// The rows made up to now, by period.
     handed: Vec<Vec<Readings>>,
@@ -67,7 +67,7 @@ impl<'a> Writer<'a> {
             .map(|own| Replica::new(group.boxes, own, group.settings).expect("a good group"))
             .collect();
         let rare = |prng: &mut Prng| prng.pick(&[0, 1, 2, 4]);
-        let strays = Strays {
+        let disturbances = Disturbances {
             malformed: rare(prng),
             doubled: rare(prng) * 2,
             late: rare(prng) * 2,
@@ -87,7 +87,7 @@ impl<'a> Writer<'a> {
             stopped: vec![false; group.boxes.into()],
             group,
             limit,
-            strays,
+            disturbances,
             rows,
             handed: Vec::new(),
             sent: Vec::new(),
@@ -158,7 +158,7 @@ impl<'a> Writer<'a> {
             };
         }
         self.run(place, text, |replica, areas| replica.tick(&readings, areas));
-        self.stray();
+        self.disturb();
     }
 
     pub fn give_up(&mut self, place: usize) {
@@ -167,15 +167,15 @@ impl<'a> Writer<'a> {
         }
         self.counts.give_ups += 1;
         self.run(place, format!("G {}", place + 1), Replica::give_up);
-        self.stray();
+        self.disturb();
     }
 
     pub fn deliver(&mut self, sent: usize, place: usize) {
         self.deliver_alone(sent, place);
-        self.stray();
+        self.disturb();
     }
 
-    /// A delivery that no stray line follows, for strays themselves.
+    /// A delivery that no disturbance follows, for disturbances themselves.
     fn deliver_alone(&mut self, sent: usize, place: usize) {
         if self.is_full() || self.stopped[place] {
             return;
@@ -287,29 +287,29 @@ impl<'a> Writer<'a> {
     // Lines out of order.
 
     /// Now and then, one line more that is out of order.
-    fn stray(&mut self) {
-        let strays = self.strays;
-        if self.prng.chance(strays.malformed) {
+    fn disturb(&mut self) {
+        let disturbances = self.disturbances;
+        if self.prng.chance(disturbances.malformed) {
             self.malformed();
         }
-        if self.prng.chance(strays.doubled) {
-            self.stray_delivery(|writer, sent, place| {
+        if self.prng.chance(disturbances.doubled) {
+            self.disturbing_delivery(|writer, sent, place| {
                 writer.sent[sent].delivered.contains(&place) && !writer.is_late(sent, place)
             });
         }
-        if self.prng.chance(strays.late) {
-            self.stray_delivery(|writer, sent, place| {
+        if self.prng.chance(disturbances.late) {
+            self.disturbing_delivery(|writer, sent, place| {
                 writer.is_late(sent, place) && writer.is_meant_for(sent, place)
             });
         }
-        if self.prng.chance(strays.misdirected) {
-            self.stray_delivery(|writer, sent, place| !writer.is_meant_for(sent, place));
+        if self.prng.chance(disturbances.misdirected) {
+            self.disturbing_delivery(|writer, sent, place| !writer.is_meant_for(sent, place));
         }
     }
 
     /// Delivers a frame of the wanted sort, if some tries find one. Half of
     /// the tries look at the newest frames alone, which matter most.
-    fn stray_delivery(&mut self, wanted: impl Fn(&Self, usize, usize) -> bool) {
+    fn disturbing_delivery(&mut self, wanted: impl Fn(&Self, usize, usize) -> bool) {
         for _ in 0..30 {
             if self.sent.is_empty() {
                 return;
@@ -328,7 +328,7 @@ impl<'a> Writer<'a> {
 
     /// A random frame to a random box.
     pub fn random_delivery(&mut self) {
-        self.stray_delivery(|_, _, _| true);
+        self.disturbing_delivery(|_, _, _| true);
     }
 
     /// Of an earlier period than the box is in, or of an earlier view in it.
@@ -384,9 +384,9 @@ impl<'a> Writer<'a> {
                 base_period: frame.base_period,
             },
         };
-        let kept = match replica.best {
-            Some(best) if frame.view == replica.view => best,
-            _ => own,
+        let kept = match replica.has_best && frame.view == replica.view {
+            true => replica.best,
+            false => own,
         };
         if arriving.beats(&kept) {
             arriving

@@ -1,14 +1,28 @@
-//! Compares a C header with the functions that a Rattle crate exports. Nothing
-//! else ties the two: the linker knows names alone, and no types.
+//! Compares a C header, and declarations for Rust, with the functions that a
+//! Rattle crate exports. Nothing else ties them: the linker knows names alone,
+//! and no types.
 
 #![forbid(unsafe_code)]
 
 mod c;
 mod rattle;
 mod words;
+mod wrappers;
 
 pub use c::declared;
-pub use rattle::exported;
+pub use rattle::{exported, imported};
+pub use wrappers::wrapper_differences;
+
+/// What a header declares.
+#[derive(Clone, Debug, Default, PartialEq, Eq)]
+pub struct Declared {
+    pub functions: Vec<Function>,
+    pub wrappers: Vec<Wrapper>,
+    /// The fields of the struct of settings.
+    pub settings: Vec<Parameter>,
+    /// Of macros and enums.
+    pub constants: Vec<Constant>,
+}
 
 /// A function as C sees it.
 #[derive(Clone, Debug, PartialEq, Eq)]
@@ -16,6 +30,24 @@ pub struct Function {
     pub name: String,
     pub parameters: Vec<Parameter>,
     pub result: String,
+}
+
+/// An inline function that has its settings from a struct. Its parameters are
+/// those after the struct.
+#[derive(Clone, Debug, PartialEq, Eq)]
+pub struct Wrapper {
+    pub name: String,
+    pub parameters: Vec<Parameter>,
+    pub result: String,
+    pub called: String,
+    pub arguments: Vec<Argument>,
+}
+
+/// What a wrapper hands on: a field of the settings, or a parameter.
+#[derive(Clone, Debug, PartialEq, Eq)]
+pub enum Argument {
+    Setting(String),
+    Parameter(String),
 }
 
 #[derive(Clone, Debug, PartialEq, Eq)]
@@ -39,6 +71,12 @@ pub enum Kind {
         number: String,
         constant: bool,
     },
+}
+
+#[derive(Clone, Debug, PartialEq, Eq)]
+pub struct Constant {
+    pub name: String,
+    pub value: usize,
 }
 
 /// Each way in which the declared functions differ from the exported ones. A

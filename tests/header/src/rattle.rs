@@ -1,6 +1,6 @@
-//! The functions that Rattle source exports, as C sees them: `&` is const, an
-//! array is passed by its address, and a slice by its address and its length.
-//! A lifetime is nothing to C.
+//! The functions that Rattle source exports and those that Rust source imports,
+//! as C sees them: `&` is const, an array is passed by its address, and a slice
+//! by its address and its length. A lifetime is nothing to C.
 
 use crate::words::{without_comments, Words};
 use crate::{Function, Kind, Parameter};
@@ -20,6 +20,22 @@ pub fn exported(source: &str) -> Result<Vec<Function>, String> {
         }
     }
     Ok(functions)
+}
+
+/// The functions of a file that has one block of them and nothing else.
+pub fn imported(source: &str) -> Result<Vec<Function>, String> {
+    let mut words = Words::of(&without_comments(source));
+    words.expect(&["extern", "\"", "C", "\"", "{"])?;
+    let mut functions = Vec::new();
+    while !words.take(&["}"]) {
+        words.expect(&["pub", "fn"])?;
+        functions.push(function(&mut words)?);
+        words.expect(&[";"])?;
+    }
+    match words.is_empty() {
+        true => Ok(functions),
+        false => Err(format!("unexpected '{}'", words.peek())),
+    }
 }
 
 fn function(words: &mut Words) -> Result<Function, String> {
@@ -45,6 +61,13 @@ fn function(words: &mut Words) -> Result<Function, String> {
 fn parameter(words: &mut Words) -> Result<Vec<Parameter>, String> {
     let name = words.name()?;
     words.expect(&[":"])?;
+    if words.take(&["*"]) {
+        let constant = !words.take(&["mut"]);
+        if constant {
+            words.expect(&["const"])?;
+        }
+        return Ok(vec![pointer(name, number(words)?, constant)]);
+    }
     if !words.take(&["&"]) {
         let number = number(words)?;
         return Ok(vec![value(name, number)]);

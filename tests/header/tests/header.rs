@@ -1,7 +1,7 @@
-//! include/winder.h declares what crate winder exports, and a header that is
-//! changed in any one way is found.
+//! include/winder.h and include/rust declare what crate winder exports, and a
+//! header that is changed in any one way is found.
 
-use header::{declared, differences, exported, Function};
+use header::{declared, differences, exported, imported, wrapper_differences, Function};
 use std::fs;
 use std::path::{Path, PathBuf};
 
@@ -9,8 +9,12 @@ fn path(of: &str) -> PathBuf {
     Path::new(env!("CARGO_MANIFEST_DIR")).join("../..").join(of)
 }
 
+fn text(of: &str) -> String {
+    fs::read_to_string(path(of)).expect("a file of the repository")
+}
+
 fn header() -> String {
-    fs::read_to_string(path("include/winder.h")).expect("the header")
+    text("include/winder.h")
 }
 
 /// The functions that the crate's files export.
@@ -36,7 +40,10 @@ fn prototype(name: &str) -> String {
 /// What is found in the header with another text for a function's prototype.
 fn found_with(name: &str, new: &str) -> Vec<String> {
     let header = header().replace(&prototype(name), new);
-    differences(&exports(), &declared(&header).expect("prototypes"))
+    differences(
+        &exports(),
+        &declared(&header).expect("prototypes").functions,
+    )
 }
 
 /// Changes a function's prototype, and expects that to be all that is found.
@@ -51,9 +58,137 @@ fn is_found(name: &str, old: &str, new: &str) {
 #[test]
 fn the_header_declares_what_the_crate_exports() {
     let exports = exports();
-    assert_eq!(exports.len(), 4);
+    assert_eq!(exports.len(), 6);
     let declared = declared(&header()).expect("prototypes");
-    assert_eq!(differences(&exports, &declared), Vec::<String>::new());
+    assert_eq!(
+        differences(&exports, &declared.functions),
+        Vec::<String>::new()
+    );
+    assert_eq!(wrapper_differences(&declared), Vec::<String>::new());
+    assert_eq!(declared.wrappers.len(), 2);
+}
+
+#[test]
+fn the_declarations_for_rust_are_what_the_crate_exports() {
+    let imports = imported(&text("include/rust/src/declarations.rs")).expect("a block");
+    assert_eq!(differences(&exports(), &imports), Vec::<String>::new());
+}
+
+/// Where each constant stands in the crates; `#` is its number.
+const CONSTANTS: [(&str, &str, &str); 16] = [
+    ("WINDER_VERSION", "winder/src/version.rt", "{\n    #\n}"),
+    ("WINDER_STATES_MAX", "frame/src/lib.rt", "if # < n {"),
+    ("WINDER_READINGS_MAX", "frame/src/lib.rt", "m <= #\n"),
+    ("WINDER_COMMANDS_MAX", "frame/src/lib.rt", "if # < p {"),
+    (
+        "WINDER_COEFFICIENT_MAX",
+        "law/src/ranges.rt",
+        "(coefficient <= #)",
+    ),
+    (
+        "WINDER_FRAME_AREA",
+        "frame/src/lengths.rt",
+        "LONGEST_FRAME: usize = #;",
+    ),
+    (
+        "WINDER_COMMAND_AREA",
+        "frame/src/lengths.rt",
+        "LONGEST_COMMAND: usize = #;",
+    ),
+    ("WINDER_PROPOSE", "frame/src/kinds.rt", "PROPOSE: u8 = #;"),
+    ("WINDER_ACK", "frame/src/kinds.rt", "ACK: u8 = #;"),
+    ("WINDER_DECIDE", "frame/src/kinds.rt", "DECIDE: u8 = #;"),
+    ("WINDER_ESTIMATE", "frame/src/kinds.rt", "ESTIMATE: u8 = #;"),
+    (
+        "WINDER_REFUSED_SIZES",
+        "law/src/lib.rt",
+        "Answer::Sizes => #,",
+    ),
+    (
+        "WINDER_REFUSED_COEFFICIENT",
+        "law/src/lib.rt",
+        "Answer::Coefficient => #,",
+    ),
+    (
+        "WINDER_REFUSED_LIMITS",
+        "law/src/lib.rt",
+        "Answer::Limits => #,",
+    ),
+    (
+        "WINDER_REFUSED_AREA",
+        "frame/src/lib.rt",
+        "Answer::Area => #,",
+    ),
+    (
+        "WINDER_REFUSED_FRAME",
+        "frame/src/lib.rt",
+        "Answer::Malformed => #,",
+    ),
+];
+
+#[test]
+fn each_constant_is_what_the_crates_have() {
+    let constants = declared(&header()).expect("constants").constants;
+    let names: Vec<&str> = constants
+        .iter()
+        .map(|constant| constant.name.as_str())
+        .collect();
+    assert_eq!(names, CONSTANTS.map(|(name, ..)| name));
+    for (constant, (name, file, place)) in constants.iter().zip(CONSTANTS) {
+        let place = place.replace('#', &constant.value.to_string());
+        assert!(
+            text(&format!("crates/{file}")).contains(&place),
+            "{name}: {place}"
+        );
+    }
+}
+
+#[test]
+fn the_version_is_the_same_wherever_it_stands() {
+    let constants = declared(&header()).expect("constants").constants;
+    let version = constants
+        .iter()
+        .find(|constant| constant.name == "WINDER_VERSION");
+    let version = version.expect("the version").value;
+    let (major, minor) = (version / 100, version % 100);
+    let places = [
+        (
+            "include/winder.h",
+            format!("WINDER_VERSION_TEXT \"{major}.{minor}\"\n"),
+        ),
+        (
+            "include/rust/Cargo.toml",
+            format!("version = \"{major}.{minor}.0\"\n"),
+        ),
+        (
+            "include/rust/src/lib.rs",
+            format!("VERSION: u32 = {version};\n"),
+        ),
+    ];
+    for (file, place) in places {
+        assert!(text(file).contains(&place), "{file}: {place}");
+    }
+}
+
+#[test]
+fn a_wrong_wrapper_is_found() {
+    for (old, new) in [
+        ("settings->low,", "settings->high,"),
+        (
+            "settings->c,\n        settings->k,",
+            "settings->k,\n        settings->c,",
+        ),
+        ("settings->p,", ""),
+        ("int32_t k[24];", "int32_t k[36];"),
+        ("size_t m;", "uint32_t m;"),
+        ("values,\n        state);", "state,\n        values);"),
+        ("return winder_command(", "return winder_update("),
+        ("winder_update_with", "winder_updated_with"),
+    ] {
+        let changed = header().replacen(old, new, 1);
+        let found = wrapper_differences(&declared(&changed).expect("wrappers"));
+        assert!(!found.is_empty(), "{new}");
+    }
 }
 
 #[test]
@@ -88,7 +223,11 @@ fn another_name_is_found() {
 fn another_size_is_found() {
     is_found("winder_update", "a[36]", "a[24]");
     is_found("winder_command", "state[6]", "state[7]");
-    is_found("winder_read_frame", "ends[2]", "*ends");
+    is_found(
+        "winder_read_frame",
+        "kind_and_sender[2]",
+        "*kind_and_sender",
+    );
     is_found("winder_write_frame", "*length", "length[1]");
 }
 
@@ -147,7 +286,10 @@ fn what_is_no_prototype_is_refused() {
         "typedef int int32_t;",
         "static uint32_t f(size_t n) { return 0; }",
         "uint32_t f(size_t n)",
-        "uint32_t f(void);",
+        "uint32_t f();",
+        "enum e { A, B = 1 };",
+        "struct s { size_t n; };",
+        "#define WINDER_TWO 1 + 1\n",
         "uint32_t f(const size_t n);",
         "uint32_t f(int32_t a[]);",
         "} uint32_t f(size_t n);",

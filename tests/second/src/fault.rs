@@ -54,16 +54,16 @@ pub enum Fault {
     PartCount,
     /// Kind 5 is a kind with two parts.
     FifthKind,
-    /// Bytes behind a frame are taken.
+    /// Bytes after a frame are taken.
     LongerFrame,
     /// Pairs are not looked at.
     Pairs,
     /// A mark at or above m is read.
-    StrayMarkRead,
+    MarkBeyondRead,
     /// A value that is not 0 is read under an absent mark.
     AbsentValueRead,
     /// A mark at or above m is written.
-    StrayMarkWritten,
+    MarkBeyondWritten,
     /// A value that is not 0 is written under an absent mark.
     AbsentValueWritten,
     /// The state is read with its highest byte first.
@@ -72,10 +72,32 @@ pub enum Fault {
     ShortArea,
     /// The area is looked at before n and m.
     AreaFirst,
-    /// The bytes behind a written frame become 0.
+    /// The bytes after a written frame become 0.
     BytesBehind,
     /// The header is written before a frame is refused by 8.
     RefusedHeader,
+    /// Lent areas are looked at before settings: 5 comes before 1 to 4.
+    AreasBeforeSettings,
+    /// A tick's marks are looked at before its period: 7 comes before 6.
+    MarksBeforePeriod,
+    /// A tick's view is looked at before its marks: 12 comes before 7.
+    ViewBeforeMarks,
+    /// A frame's coordinator is looked at before its sender: 10 comes before 9.
+    CoordinatorBeforeSender,
+    /// A frame's bases are looked at before its coordinator: 11 comes before 10.
+    BasesBeforeCoordinator,
+    /// The grounds for ignoring a frame are looked at before 9 to 11.
+    IgnoringBeforeRefusals,
+    /// A give-up is refused by 12 before it is ignored.
+    GiveUpRefused,
+    /// A Decide that arrives is acknowledged.
+    DecideAcknowledged,
+    /// A proposer does not count itself as having acknowledged.
+    ProposerNotCounted,
+    /// The own base period is kept when another's frame is adopted.
+    BasePeriodKept,
+    /// Boxes above N are counted.
+    BoxesAboveCounted,
 }
 
 /// The faults that scripts must find, with their names in the environment
@@ -114,15 +136,30 @@ pub const FRAME_NAMES: [(&str, Fault); 15] = [
     ("fifth_kind", Fault::FifthKind),
     ("longer_frame", Fault::LongerFrame),
     ("pairs", Fault::Pairs),
-    ("stray_mark_read", Fault::StrayMarkRead),
+    ("mark_beyond_read", Fault::MarkBeyondRead),
     ("absent_value_read", Fault::AbsentValueRead),
-    ("stray_mark_written", Fault::StrayMarkWritten),
+    ("mark_beyond_written", Fault::MarkBeyondWritten),
     ("absent_value_written", Fault::AbsentValueWritten),
     ("byte_order", Fault::ByteOrder),
     ("short_area", Fault::ShortArea),
     ("area_first", Fault::AreaFirst),
     ("bytes_behind", Fault::BytesBehind),
     ("refused_header", Fault::RefusedHeader),
+];
+
+/// The faults that steps on replicas handed in must find.
+pub const STEP_NAMES: [(&str, Fault); 11] = [
+    ("areas_before_settings", Fault::AreasBeforeSettings),
+    ("marks_before_period", Fault::MarksBeforePeriod),
+    ("view_before_marks", Fault::ViewBeforeMarks),
+    ("coordinator_before_sender", Fault::CoordinatorBeforeSender),
+    ("bases_before_coordinator", Fault::BasesBeforeCoordinator),
+    ("ignoring_before_refusals", Fault::IgnoringBeforeRefusals),
+    ("give_up_refused", Fault::GiveUpRefused),
+    ("decide_acknowledged", Fault::DecideAcknowledged),
+    ("proposer_not_counted", Fault::ProposerNotCounted),
+    ("base_period_kept", Fault::BasePeriodKept),
+    ("boxes_above_counted", Fault::BoxesAboveCounted),
 ];
 
 static PLANTED: OnceLock<Fault> = OnceLock::new();
@@ -134,7 +171,8 @@ pub fn plant_from_environment() -> Result<(), String> {
     if name.is_empty() {
         return Ok(());
     }
-    let mut known = NAMES.iter().chain(&LAW_NAMES).chain(&FRAME_NAMES);
+    let of_calls = LAW_NAMES.iter().chain(&FRAME_NAMES).chain(&STEP_NAMES);
+    let mut known = NAMES.iter().chain(of_calls);
     let (_, fault) = known
         .find(|(known, _)| name == *known)
         .ok_or_else(|| format!("{VARIABLE}: no fault named {name:?}"))?;

@@ -62,7 +62,7 @@ impl Parts {
         self.readings.0 + self.readings.1
     }
 
-    /// The pairs as they stand in the frame behind the header.
+    /// The pairs as they stand in the frame after the header.
     fn pairs(&self) -> [u8; 2 * PAIR] {
         let numbers = [self.state.0, self.state.1, self.readings.0, self.readings.1];
         let mut bytes = [0; 2 * PAIR];
@@ -160,7 +160,7 @@ fn read_readings(m: u8, part: &[u8]) -> Option<Readings> {
     };
     read_values(&part[1..], &mut readings.values);
     let read = readings.as_read(m);
-    let marks_ok = readings.marks == read.marks || planted(Fault::StrayMarkRead);
+    let marks_ok = readings.marks == read.marks || planted(Fault::MarkBeyondRead);
     let values_ok = readings.values == read.values || planted(Fault::AbsentValueRead);
     (marks_ok && values_ok).then_some(readings)
 }
@@ -215,7 +215,7 @@ pub fn write(n: u8, m: u8, frame: &Frame, area: &mut [u8]) -> Result<usize, Refu
 fn can_be_written(m: u8, readings: &Readings) -> bool {
     let absent_are_zero = (0..m.into()).all(|j| readings.is_present(j) || readings.values[j] == 0)
         || planted(Fault::AbsentValueWritten);
-    absent_are_zero && (!readings.has_marks_beyond(m) || planted(Fault::StrayMarkWritten))
+    absent_are_zero && (!readings.has_marks_beyond(m) || planted(Fault::MarkBeyondWritten))
 }
 
 fn write_header(frame: &Frame, part_count: u8, area: &mut [u8]) {

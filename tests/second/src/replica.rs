@@ -10,6 +10,9 @@ use crate::refusal::Refusal;
 pub const LEAST_BOXES: u8 = 3;
 pub const MOST_BOXES: u8 = 9;
 
+/// Places for the boxes heard: box b has place b, so that place 0 is no box's.
+pub const HEARD_PLACES: usize = MOST_BOXES as usize + 1;
+
 /// "a majority is N/2 rounded down, plus 1"
 pub fn majority(boxes: u8) -> u8 {
     if planted(Fault::QuorumSmaller) {
@@ -40,7 +43,7 @@ pub enum Mode {
 }
 
 /// "an estimate (state, readings, base period)"
-#[derive(Clone, Copy, Debug, PartialEq, Eq)]
+#[derive(Clone, Copy, Debug, Default, PartialEq, Eq)]
 pub struct Estimate {
     pub state: State,
     pub readings: Readings,
@@ -48,7 +51,7 @@ pub struct Estimate {
 }
 
 /// An estimate heard in a view change, with what it is compared by.
-#[derive(Clone, Copy, Debug, PartialEq, Eq)]
+#[derive(Clone, Copy, Debug, Default, PartialEq, Eq)]
 pub struct Heard {
     pub from: u8,
     pub base_view: u32,
@@ -107,7 +110,9 @@ enum Outcome {
 }
 
 /// One replica. Its fields may hold anything; every step looks at the
-/// settings among them first.
+/// settings among them first. What a step's rule does not write comes back as
+/// it was handed in, also what has no meaning there: places beyond n and m,
+/// values under absent marks, boxes above N.
 #[derive(Clone, Copy, Debug, PartialEq, Eq)]
 pub struct Replica {
     /// N
@@ -121,10 +126,14 @@ pub struct Replica {
     pub mode: Mode,
     pub decided: bool,
     pub estimate: Estimate,
-    /// "the boxes heard (Acks or Estimates)"; box b at place b − 1.
-    pub heard: [bool; MOST_BOXES as usize],
-    /// "in a view change, the best estimate heard"
-    pub best: Option<Heard>,
+    /// "the boxes heard (Acks or Estimates)"; box b at place b. Place 0 and
+    /// those above N are never counted.
+    pub heard: [bool; HEARD_PLACES],
+    /// Whether there is a best estimate: a field of its own, so that one
+    /// handed in may hold anything for a best estimate that is not there.
+    pub has_best: bool,
+    /// "in a view change, the best estimate heard"; all 0 once emptied.
+    pub best: Heard,
 }
 
 impl Replica {
@@ -147,11 +156,11 @@ impl Replica {
             decided: false,
             estimate: Estimate {
                 state,
-                readings: Readings::default(),
-                base_period: 0,
+                ..Estimate::default()
             },
-            heard: [false; MOST_BOXES as usize],
-            best: None,
+            heard: [false; HEARD_PLACES],
+            has_best: false,
+            best: Heard::default(),
         })
     }
 
@@ -192,6 +201,9 @@ impl Replica {
         areas: Areas,
         event: impl FnOnce(&mut Replica) -> Result<Outcome, Refusal>,
     ) -> Result<Step, Refusal> {
+        if planted(Fault::AreasBeforeSettings) {
+            areas.check()?;
+        }
         check_group(self.boxes, self.own)?;
         law::check(&self.settings)?;
         areas.check()?;
@@ -221,12 +233,7 @@ impl Replica {
     /// view-change mode the view is then raised. In normal mode a coordinator
     /// proposes."
     fn on_tick(&mut self, readings: &Readings) -> Result<Outcome, Refusal> {
-        if self.period == u32::MAX {
-            return Err(Refusal::LastPeriod);
-        }
-        if readings.has_marks_beyond(self.settings.m) {
-            return Err(Refusal::Marks);
-        }
+        self.check_tick(readings)?;
         if self.tick_updates() {
             self.estimate.state = self.updated()?;
         }
@@ -254,6 +261,9 @@ impl Replica {
     /// "Raises it, unless the box is coordinator in normal mode." Ignored in
     /// period 0 or in a decided period; "ignoring a give-up comes before 12".
     fn on_give_up(&mut self) -> Result<Outcome, Refusal> {
+        if planted(Fault::GiveUpRefused) {
+            self.check_view()?;
+        }
         let normal_coordinator = self.mode == Mode::Normal && self.is_coordinator();
         if self.period == 0 || self.decided || normal_coordinator {
             return Ok(Outcome::Ignored);
@@ -264,9 +274,10 @@ impl Replica {
     /// 8, 9, 10 and 11 "are found before any ground for ignoring".
     fn on_frame(&mut self, bytes: &[u8]) -> Result<Outcome, Refusal> {
         let frame = frame::read(self.settings.n, self.settings.m, bytes)?;
-        self.check_sender(&frame)?;
-        self.check_coordinator(&frame)?;
-        check_bases(&frame)?;
+        if planted(Fault::IgnoringBeforeRefusals) && self.ignores(&frame) {
+            return Ok(Outcome::Ignored);
+        }
+        self.check_frame(&frame)?;
         if self.ignores(&frame) {
             return Ok(Outcome::Ignored);
         }
@@ -308,7 +319,7 @@ impl Replica {
         self.adopt(frame);
         let command = self.decide()?;
         Ok(Outcome::Done(Sent {
-            frame: None,
+            frame: planted(Fault::DecideAcknowledged).then(|| self.ack_frame()),
             command: Some(command),
         }))
     }
@@ -328,9 +339,7 @@ impl Replica {
         if !self.majority_heard() {
             return Ok(Outcome::Done(Sent::default()));
         }
-        if let Some(best) = self.best {
-            self.estimate = best.estimate;
-        }
+        self.estimate = self.best.estimate;
         self.propose()
     }
 
@@ -344,7 +353,9 @@ impl Replica {
         self.estimate.base_period = self.period;
         self.base_view = self.view;
         self.empty_heard();
-        self.enter(self.own);
+        if !planted(Fault::ProposerNotCounted) {
+            self.enter(self.own);
+        }
         self.send(self.frame_of_view(PROPOSE))
     }
 
@@ -352,7 +363,8 @@ impl Replica {
     /// estimate is the first heard. Otherwise: normal mode and its Estimate
     /// goes to the new coordinator." Refused by 12.
     fn raise_view(&mut self) -> Result<Outcome, Refusal> {
-        self.view = self.view.checked_add(1).ok_or(Refusal::LastView)?;
+        self.check_view()?;
+        self.view += 1;
         self.empty_heard();
         if self.is_coordinator() {
             self.mode = Mode::ViewChange;
@@ -377,13 +389,16 @@ impl Replica {
 
     /// "View and estimate are adopted, base view is the view, mode is normal"
     fn adopt(&mut self, frame: &Frame) {
-        let own_readings = self.estimate.readings;
+        let held = self.estimate;
         self.view = frame.view;
         self.base_view = frame.view;
         self.mode = Mode::Normal;
         self.estimate = estimate_of(frame);
         if planted(Fault::OwnReadings) {
-            self.estimate.readings = own_readings;
+            self.estimate.readings = held.readings;
+        }
+        if planted(Fault::BasePeriodKept) {
+            self.estimate.base_period = held.base_period;
         }
         self.empty_heard();
     }
@@ -420,27 +435,34 @@ impl Replica {
 
     // The boxes heard.
 
-    /// Empties "the boxes heard and the best estimate". What stands for boxes
-    /// above N stays as it is.
+    /// Empties "the boxes heard and the best estimate": every place, also
+    /// those above N, since document 01 makes no exception for them.
     fn empty_heard(&mut self) {
-        self.heard[..self.boxes.into()].fill(false);
-        self.best = None;
+        self.heard = [false; HEARD_PLACES];
+        self.has_best = false;
+        self.best = Heard::default();
     }
 
-    /// Whether a box from 1 to N is among those heard.
+    /// Whether a box is among those heard. The number may be no box's: a
+    /// planted fault asks before refusal 9 is looked at.
     fn has_heard(&self, number: u8) -> bool {
-        self.heard[usize::from(number) - 1]
+        self.is_box(number) && self.heard[usize::from(number)]
+    }
+
+    /// "boxes are numbered 1 to N"
+    fn is_box(&self, number: u8) -> bool {
+        (1..=self.boxes).contains(&number)
     }
 
     /// Enters a box from 1 to N.
     fn enter(&mut self, number: u8) {
-        self.heard[usize::from(number) - 1] = true;
+        self.heard[usize::from(number)] = true;
     }
 
     /// Makes the count of boxes heard rise by one: the planted fault of the
     /// doubled Ack.
     fn enter_unheard(&mut self) {
-        let counted = &mut self.heard[..self.boxes.into()];
+        let counted = &mut self.heard[1..=self.boxes.into()];
         if let Some(place) = counted.iter_mut().find(|heard| !**heard) {
             *place = true;
         }
@@ -449,8 +471,9 @@ impl Replica {
     /// Enters the box of an estimate and weighs the estimate.
     fn hear(&mut self, heard: Heard) {
         self.enter(heard.from);
-        if self.best.is_none_or(|best| heard.beats(&best)) {
-            self.best = Some(heard);
+        if !self.has_best || heard.beats(&self.best) {
+            self.has_best = true;
+            self.best = heard;
         }
     }
 
@@ -465,16 +488,69 @@ impl Replica {
 
     /// "boxes above N aren't counted"
     fn majority_heard(&self) -> bool {
-        let counted = &self.heard[..self.boxes.into()];
+        let mut last = self.boxes;
+        if planted(Fault::BoxesAboveCounted) {
+            last = MOST_BOXES;
+        }
+        let counted = &self.heard[1..=last.into()];
         let count = counted.iter().filter(|heard| **heard).count();
         count >= majority(self.boxes).into()
     }
 
-    // Grounds for refusing and for ignoring a frame.
+    // Grounds for refusing an event and for ignoring a frame.
+
+    /// A tick's refusals: "6 and 7 come before 12".
+    fn check_tick(&self, readings: &Readings) -> Result<(), Refusal> {
+        if planted(Fault::MarksBeforePeriod) {
+            self.check_marks(readings)?;
+        }
+        self.check_period()?;
+        if planted(Fault::ViewBeforeMarks) && self.mode == Mode::ViewChange {
+            self.check_view()?;
+        }
+        self.check_marks(readings)
+    }
+
+    /// Refusal 6: "period already 4,294,967,295".
+    fn check_period(&self) -> Result<(), Refusal> {
+        if self.period == u32::MAX {
+            return Err(Refusal::LastPeriod);
+        }
+        Ok(())
+    }
+
+    /// Refusal 7: "a present mark at or above m".
+    fn check_marks(&self, readings: &Readings) -> Result<(), Refusal> {
+        if readings.has_marks_beyond(self.settings.m) {
+            return Err(Refusal::Marks);
+        }
+        Ok(())
+    }
+
+    /// Refusal 12: "view already 4,294,967,295".
+    fn check_view(&self) -> Result<(), Refusal> {
+        if self.view == u32::MAX {
+            return Err(Refusal::LastView);
+        }
+        Ok(())
+    }
+
+    /// Refusals 9, 10 and 11, in this order.
+    fn check_frame(&self, frame: &Frame) -> Result<(), Refusal> {
+        if planted(Fault::CoordinatorBeforeSender) {
+            self.check_coordinator(frame)?;
+        }
+        self.check_sender(frame)?;
+        if planted(Fault::BasesBeforeCoordinator) {
+            check_bases(frame)?;
+        }
+        self.check_coordinator(frame)?;
+        check_bases(frame)
+    }
 
     /// Refusal 9: "sender not 1 to N, or the own number".
     fn check_sender(&self, frame: &Frame) -> Result<(), Refusal> {
-        if (1..=self.boxes).contains(&frame.sender) && frame.sender != self.own {
+        if self.is_box(frame.sender) && frame.sender != self.own {
             Ok(())
         } else {
             Err(Refusal::Sender)

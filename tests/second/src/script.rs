@@ -443,7 +443,7 @@ mod tests {
     }
 
     #[test]
-    fn what_stands_behind_line_500_is_not_read() {
+    fn what_stands_after_line_500_is_not_read() {
         let input = "\n".repeat(501);
         assert_eq!(run_bench(input.as_bytes()).lines().count(), 501);
         let input = format!("{SMALL_RIG}\n{input}");

@@ -29,7 +29,7 @@ fn lines(program: &str, fault: &str, input: &str) -> Vec<String> {
     text.lines().map(str::to_string).collect()
 }
 
-/// The fault must show, first on the line given (counted from 1 behind the
+/// The fault must show, first on the line given (counted from 1 after the
 /// header), as the row given.
 fn assert_shows(program: &str, fault: &str, input: &str, line: usize, row: &str) {
     let right = lines(program, "", input);
@@ -168,4 +168,38 @@ fn round_to_zero_shows() {
 fn lower_view_shows() {
     let input = "T 1 5\nT 2 7\nG 2\nD 2 1\n";
     assert_shows(BENCH, "lower_view", input, 4, "4 2 ok 1 0 0 1 0 4 -");
+}
+
+#[test]
+fn coordinator_before_sender_shows() {
+    // Box 2 gets its own Ack, which is for box 1.
+    let input = "T 1 5\nT 2 7\nD 2 1\nD 2 3\n";
+    let row = "4 2 r10 1 0 0 1 0 - -";
+    assert_shows(BENCH, "coordinator_before_sender", input, 4, row);
+}
+
+#[test]
+fn ignoring_before_refusals_shows() {
+    // Box 3, still in period 0, gets an Ack that is for box 1.
+    let input = "T 1 5\nT 2 7\nD 2 1\nD 3 3\n";
+    let row = "4 3 ignored 0 0 0 0 0 - -";
+    assert_shows(BENCH, "ignoring_before_refusals", input, 4, row);
+}
+
+#[test]
+fn decide_acknowledged_shows() {
+    let row = "5 2 ok 1 0 0 1 0 5 50";
+    assert_shows(BENCH, "decide_acknowledged", EXAMPLE, 5, row);
+}
+
+#[test]
+fn proposer_not_counted_shows() {
+    let row = "4 1 ok 1 0 0 1 0 - -";
+    assert_shows(BENCH, "proposer_not_counted", EXAMPLE, 4, row);
+}
+
+#[test]
+fn base_period_kept_shows() {
+    let row = "3 2 ok 1 0 0 0 0 3 -";
+    assert_shows(BENCH, "base_period_kept", EXAMPLE, 3, row);
 }

@@ -10,24 +10,15 @@ pub const VALUES: [i32; 4] = [103, 204, 305, 406];
 const HALF: i32 = 32_768;
 const ONE: i32 = 65_536;
 
-/// Document 01's tables, with the layout of crate law: rows of A, C and K have six places, rows of L four.
 pub struct Law {
-    pub n: usize,
-    pub m: usize,
-    pub p: usize,
-    pub a: [i32; 36],
-    pub l: [i32; 24],
-    pub c: [i32; 24],
-    pub k: [i32; 24],
-    pub low: [i32; 4],
-    pub high: [i32; 4],
+    pub settings: winder::Settings,
     pub start: [i32; 6],
 }
 
 impl Law {
     /// Places beyond n, m and p hold 0.
     pub fn new(n: usize, m: usize, p: usize) -> Law {
-        Law {
+        let settings = winder::Settings {
             n,
             m,
             p,
@@ -37,23 +28,27 @@ impl Law {
             k: table(p, n, 6, ONE, -2_048),
             low: table(1, p, 4, -1_000_000, -1_000_000),
             high: table(1, p, 4, 1_000_000, 1_000_000),
+        };
+        Law {
+            settings,
             start: table(1, n, 6, 10, 20),
         }
     }
 
     /// The same settings for the second implementation.
-    pub fn settings(&self) -> Settings {
+    pub fn second_settings(&self) -> Settings {
         let size = |size: usize| u8::try_from(size).expect("at most 6");
+        let settings = &self.settings;
         Settings {
-            n: size(self.n),
-            m: size(self.m),
-            p: size(self.p),
-            a: rows(&self.a),
-            l: rows(&self.l),
-            c: rows(&self.c),
-            k: rows(&self.k),
-            lower: self.low,
-            upper: self.high,
+            n: size(settings.n),
+            m: size(settings.m),
+            p: size(settings.p),
+            a: rows(&settings.a),
+            l: rows(&settings.l),
+            c: rows(&settings.c),
+            k: rows(&settings.k),
+            lower: settings.low,
+            upper: settings.high,
             start: self.start,
         }
     }
@@ -98,7 +93,7 @@ impl Group {
     }
 
     fn readings(&self) -> usize {
-        self.law.as_ref().map_or(1, |law| law.m)
+        self.law.as_ref().map_or(1, |law| law.settings.m)
     }
 
     /// A tick; its readings differ a little from one turn to the next.
@@ -116,14 +111,15 @@ impl Group {
     /// The line that describes the group to `rig`.
     pub fn first_line(&self) -> Option<String> {
         let law = self.law.as_ref()?;
-        let (n, m, p) = (law.n, law.m, law.p);
+        let settings = &law.settings;
+        let (n, m, p) = (settings.n, settings.m, settings.p);
         let mut words = vec![self.boxes as i32, n as i32, m as i32, p as i32];
-        push(&mut words, &law.a, n, n, 6);
-        push(&mut words, &law.l, n, m, 4);
-        push(&mut words, &law.c, m, n, 6);
-        push(&mut words, &law.k, p, n, 6);
-        words.extend(&law.low[..p]);
-        words.extend(&law.high[..p]);
+        push(&mut words, &settings.a, n, n, 6);
+        push(&mut words, &settings.l, n, m, 4);
+        push(&mut words, &settings.c, m, n, 6);
+        push(&mut words, &settings.k, p, n, 6);
+        words.extend(&settings.low[..p]);
+        words.extend(&settings.high[..p]);
         words.extend(&law.start[..n]);
         let words: Vec<String> = words.iter().map(i32::to_string).collect();
         Some(format!("rig {}", words.join(" ")))

@@ -5,7 +5,7 @@ use crate::group::Group;
 /// "It reads at most 500 lines"
 pub const MOST_LINES: usize = 500;
 
-/// Lines are measured behind this one, where every line number has three digits.
+/// Lines are measured after this one, where every line number has three digits.
 const LAST_UNMEASURED: usize = 100;
 
 pub struct Script<'a> {

@@ -81,7 +81,7 @@ impl Chart<'_> {
     }
 
     /// The last step of a box that stopped. Scripts have no line for a stop: a
-    /// box is drawn as stopped if it has no line behind another's give-up.
+    /// box is drawn as stopped if it has no line after another's give-up.
     fn stopped_at(&self, who: usize) -> Option<usize> {
         let last = self.steps_of(who).last()?;
         let later = &self.run.steps[last + 1..];
@@ -308,7 +308,7 @@ mod tests {
     }
 
     #[test]
-    fn a_box_with_no_line_behind_a_give_up_has_stopped() {
+    fn a_box_with_no_line_after_a_give_up_has_stopped() {
         let picture = drawn(
             "T 1 1\nT 2 1\nG 2\n",
             "1 1 ok 1 0 0 1 0 1 -\n2 2 ok 1 0 0 0 0 - -\n3 2 ok 1 1 0 0 0 - -\n",

@@ -1,4 +1,4 @@
--- `frame::command_values` meets its contract: the bytes behind the eighth are read into four places. Assumes nothing.
+-- `frame::command_values` meets its contract: the bytes after the eighth are read into four places. Assumes nothing.
 use borrow.Author.Tests.{le-leb, lt-leb}
 use Rattle.lists.specs.Choice.{pick}
 use Rattle.lists.specs.Places.{filled}

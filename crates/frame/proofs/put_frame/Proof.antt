@@ -1,4 +1,4 @@
--- `frame::put_frame` meets its contract: the header, the pairs and the parts are put one behind the other. Assumes nothing.
+-- `frame::put_frame` meets its contract: the header, the pairs and the parts are put one after the other. Assumes nothing.
 use mathlib.Core.Path.{_≡_, sym, ap, _∙_}
 use mathlib.Core.List.{_++_}
 use Prim.Native.Nat.{ℕ, _+_, _≤_}

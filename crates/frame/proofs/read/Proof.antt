@@ -20,7 +20,7 @@ use Rattle.frame.proofs.Refusals.{bad-header, good-header, by-parts, no
 use Rattle.frame.proofs.read.Statement.{statement}
 use Rattle.frame.proofs.read.Tie as tie
 
--- ---- what is known behind each test
+-- ---- what is known after each test
 
 abbrev given : tie.Else1 → tie.Start
 given c = c .before .before .before

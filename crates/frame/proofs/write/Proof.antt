@@ -11,7 +11,7 @@ use Rattle.frame.proofs.Refusals.{write-sizes, write-area, write-malfor
 use Rattle.frame.proofs.write.Statement.{statement}
 use Rattle.frame.proofs.write.Tie as tie
 
--- n and m are within their ranges behind the first test
+-- n and m are within their ranges after the first test
 sized : (c : tie.Else1) → sizesOk (c .before .before .before .args .n) (c .before .before .before .args .m) ≡ true
 sized c = sym (c .before .sizes-ok .ensures) ∙ not-false _ (c .if1 .left)
 

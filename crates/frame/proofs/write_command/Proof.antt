@@ -10,7 +10,7 @@ use borrow.Author.Needs.{needs}
 use Rattle.frame.proofs.write_command.Statement.{statement}
 use Rattle.frame.proofs.write_command.Tie as tie
 
--- p is within its range behind the first two tests
+-- p is within its range after the first two tests
 in-range : (c : tie.Else2) → commandsOk (c .before .before .before .args .p) ≡ true
 unfolding commandsOk
 in-range c = let p = c .before .before .before .args .p in rw (le-leb 1 p (c .before .if1 .left), le-leb p 4 (c .if2 .left))

@@ -5,7 +5,7 @@ use borrow.Author.Needs.{needs}
 use native.Mathlib.Omega.{arith}
 use Rattle.lists.specs.Choice.{pick}
 use Rattle.opening.specs.declared.Opening.the-variants.{Refused}
-use Rattle.opening.specs.Opening.{begun, openedBy, openedWith, openedAs, shut}
+use Rattle.opening.specs.Opening.{begun, openedBy, openedWith, openedAs, unopened}
 use Rattle.opening.proofs.OpeningLaws.{in-range}
 use Rattle.opening.proofs.open.Statement.{statement}
 use Rattle.opening.proofs.open.Tie as tie
@@ -19,8 +19,8 @@ field-requires c κs = search needs
 has-begun-requires : tie.Need-has-begun-requires
 has-begun-requires c κs = search needs
 
-shut-requires : tie.Need-shut-requires
-shut-requires c κs = search needs
+unopened-requires : tie.Need-unopened-requires
+unopened-requires c κs = search needs
 
 returns : tie.Need-returns
 unfolding openedBy pick
@@ -29,14 +29,14 @@ returns c =
     let s = c .before .before .before .before .sizes-in .result in
     let b = sym (c .before .before .has-begun .ensures ∙ ap (λ w. begun w s) (c .before .before .before .field .ensures)) ∙ not-true _
     (c .before .if1 .taken) in
-    let x : c .shut .result ≡ openedBy line s = rw b (c .shut .ensures) in
+    let x : c .unopened .result ≡ openedBy line s = rw b (c .unopened .ensures) in
     x ∙ ap (openedBy line) (c .before .before .before .before .sizes-in .ensures)
 
 sizes-refusal-requires : tie.Need-sizes-refusal-requires
 sizes-refusal-requires c κs = search needs
 
-shut-requires-2 : tie.Need-shut-requires-2
-shut-requires-2 c κs = search needs
+unopened-requires-2 : tie.Need-unopened-requires-2
+unopened-requires-2 c κs = search needs
 
 returns-2 : tie.Need-returns-2
 unfolding openedBy pick
@@ -48,7 +48,7 @@ returns-2 c =
     ∙ ap (λ w. begun w s) (c .before .before .before .before .before .field .ensures))
     ∙ not-false _ (c .before .before .before .if1 .left) in
     let n = ne-eqb _ _ (λ z. c .before .if2 .taken (c .before .before .sizes-refusal .ensures ∙ z)) in
-    let x : c .shut2 .result ≡ openedBy line s = rw (b, n) (c .shut2 .ensures ∙ ap (λ k. shut (Refused k)) (c .before .before .sizes-refusal .ensures)) in
+    let x : c .unopened2 .result ≡ openedBy line s = rw (b, n) (c .unopened2 .ensures ∙ ap (λ k. unopened (Refused k)) (c .before .before .sizes-refusal .ensures)) in
     x ∙ ap (openedBy line) (c .before .before .before .before .before .before .sizes-in .ensures)
 
 starts-of-requires : tie.Need-starts-of-requires
@@ -57,8 +57,8 @@ starts-of-requires c κs = let r = in-range _ (sym (c .before .sizes-refusal .en
 is-numbered-requires : tie.Need-is-numbered-requires
 is-numbered-requires c κs = c .starts-of .ensures .7
 
-shut-requires-3 : tie.Need-shut-requires-3
-shut-requires-3 c κs = search needs
+unopened-requires-3 : tie.Need-unopened-requires-3
+unopened-requires-3 c κs = search needs
 
 returns-3 : tie.Need-returns-3
 unfolding openedBy openedWith pick
@@ -71,9 +71,9 @@ returns-3 c =
     ∙ not-false _ (c .before .before .before .before .before .before .if1 .left) in
     let z = eq-eqb _ _ (sym (c .before .before .before .before .before .sizes-refusal .ensures) ∙ c .before .before .before .before .if2 .left) in
     let at = c .before .before .before .starts-of .result in
-    let y : c .shut3 .result ≡ openedWith line s at = rw (sym (c .before .before .is-numbered .ensures) ∙ not-true _ (c .before .if3 .taken))
-    (c .shut3 .ensures) in
-    let x : c .shut3 .result ≡ openedBy line s = rw (b, z) (y ∙ ap (openedWith line s) (c .before .before .before .starts-of .ensures .0)) in
+    let y : c .unopened3 .result ≡ openedWith line s at = rw (sym (c .before .before .is-numbered .ensures) ∙ not-true _ (c .before .if3 .taken))
+    (c .unopened3 .ensures) in
+    let x : c .unopened3 .result ≡ openedBy line s = rw (b, z) (y ∙ ap (openedWith line s) (c .before .before .before .starts-of .ensures .0)) in
     x ∙ ap (openedBy line) (c .before .before .before .before .before .before .before .before .before .sizes-in .ensures)
 
 law-in-requires : tie.Need-law-in-requires
@@ -114,14 +114,14 @@ open-spec =
     sizes-in-requires
     field-requires
     has-begun-requires
-    shut-requires
+    unopened-requires
     returns
     sizes-refusal-requires
-    shut-requires-2
+    unopened-requires-2
     returns-2
     starts-of-requires
     is-numbered-requires
-    shut-requires-3
+    unopened-requires-3
     returns-3
     law-in-requires
     cast-t16

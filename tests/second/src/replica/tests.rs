@@ -26,8 +26,8 @@ fn run(event: impl FnOnce(Areas) -> (Replica, Step)) -> Taken {
         frame: &mut frame,
         command: &mut command,
     });
-    let behind = [&frame[step.frame_length..], &command[step.command_length..]].concat();
-    assert!(behind.iter().all(|&byte| byte == FILL));
+    let after = [&frame[step.frame_length..], &command[step.command_length..]].concat();
+    assert!(after.iter().all(|&byte| byte == FILL));
     Taken {
         replica,
         answer: step.answer,
@@ -96,6 +96,18 @@ fn of_view(kind: u8, sender: u8, period: u32, view: u32) -> Frame {
         kind,
         ..estimate(sender, period, view, (view, period))
     }
+}
+
+/// The places of the boxes heard when these boxes are.
+fn places_of(numbers: &[usize]) -> [bool; HEARD_PLACES] {
+    std::array::from_fn(|place| numbers.contains(&place))
+}
+
+/// The replica with every place marked that is no box's.
+fn with_places_beyond(mut replica: Replica) -> Replica {
+    replica.heard[0] = true;
+    replica.heard[usize::from(replica.boxes) + 1..].fill(true);
+    replica
 }
 
 fn assert_unchanged(before: Replica, taken: &Taken, answer: Answer) {
@@ -215,8 +227,9 @@ fn giving_up_sends_the_estimate_or_waits_for_others() {
     let second = give_up(ticked(3, 2));
     assert!(second.frame.is_empty());
     assert_eq!(second.replica.mode, Mode::ViewChange);
-    assert_eq!(second.replica.heard[..3], [false, true, false]);
-    assert_eq!(second.replica.best.unwrap().from, 2);
+    assert_eq!(second.replica.heard, places_of(&[2]));
+    assert!(second.replica.has_best);
+    assert_eq!(second.replica.best.from, 2);
 
     let coordinator = ticked(3, 1);
     assert_unchanged(coordinator, &give_up(coordinator), Answer::Ignored);
@@ -239,8 +252,9 @@ fn a_majority_of_estimates_makes_the_best_the_proposal() {
     assert_eq!((sent.kind, sent.state[0]), (PROPOSE, 30));
     assert_eq!((sent.base_view, sent.base_period), (1, 1));
     assert_eq!(two.replica.mode, Mode::Normal);
-    assert_eq!(two.replica.heard[..4], [false, true, false, false]);
-    assert_eq!(two.replica.best, None);
+    assert_eq!(two.replica.heard, places_of(&[2]));
+    assert!(!two.replica.has_best);
+    assert_eq!(two.replica.best, Heard::default());
     assert_ignored(two.replica, &estimate(1, 1, 1, (0, 0)));
 }
 
@@ -262,7 +276,7 @@ fn an_estimate_at_a_higher_view_is_never_a_second_one() {
     assert!(entered.frame.is_empty());
     assert_eq!(entered.replica.view, 4);
     assert_eq!(entered.replica.mode, Mode::ViewChange);
-    assert_eq!(entered.replica.heard[..4], [true, true, false, false]);
+    assert_eq!(entered.replica.heard, places_of(&[1, 2]));
     assert_ignored(entered.replica, &ack(3, 1, 4));
 }
 
@@ -390,19 +404,57 @@ fn the_last_view_is_not_raised() {
 }
 
 #[test]
-fn boxes_above_n_stay_and_are_not_counted() {
-    let mut replica = fresh(4, 1);
-    replica.heard[4..].fill(true);
-    let proposed = tick(replica, 1).replica;
-    assert!(proposed.heard[4..].iter().all(|heard| *heard));
-    let taken = arrive_frame(proposed, &ack(2, 1, 0));
-    assert!(taken.frame.is_empty() && !taken.replica.decided);
+fn boxes_above_n_are_not_counted_and_stay_until_emptied() {
+    let proposed = with_places_beyond(tick(fresh(4, 1), 1).replica);
+    let acknowledged = arrive_frame(proposed, &ack(2, 1, 0));
+    assert!(acknowledged.frame.is_empty() && !acknowledged.replica.decided);
+    let expected = places_of(&[0, 1, 2, 5, 6, 7, 8, 9]);
+    assert_eq!(acknowledged.replica.heard, expected);
+    let decided = arrive_frame(acknowledged.replica, &ack(3, 1, 0)).replica;
+    assert!(decided.decided);
+    assert_eq!(decided.heard, places_of(&[0, 1, 2, 3, 5, 6, 7, 8, 9]));
+
+    let waiting = with_places_beyond(give_up(ticked(4, 2)).replica);
+    let heard = arrive_frame(waiting, &estimate(3, 1, 1, (0, 0)));
+    assert!(heard.frame.is_empty() && heard.replica.mode == Mode::ViewChange);
+    assert_eq!(heard.replica.heard, places_of(&[0, 2, 3, 5, 6, 7, 8, 9]));
+}
+
+#[test]
+fn whatever_empties_the_boxes_heard_empties_every_place() {
+    let emptied = |taken: Taken, left: &[usize]| {
+        assert_eq!(taken.answer, Answer::Ok);
+        assert_eq!(taken.replica.heard, places_of(left));
+    };
+    let follower = with_places_beyond(ticked(4, 3));
+    let coordinator = with_places_beyond(ticked(4, 1));
+    let next = with_places_beyond(ticked(4, 2));
+    emptied(tick(follower, 1), &[]);
+    emptied(tick(coordinator, 1), &[1]);
+    emptied(give_up(follower), &[]);
+    emptied(give_up(next), &[2]);
+    emptied(arrive_frame(follower, &of_view(PROPOSE, 1, 1, 0)), &[]);
+    emptied(arrive_frame(follower, &of_view(DECIDE, 1, 1, 0)), &[]);
+    let entering = estimate(3, 1, 4, (0, 0));
+    emptied(arrive_frame(coordinator, &entering), &[1, 3]);
+    let mut waiting = with_places_beyond(give_up(ticked(4, 2)).replica);
+    waiting.heard[1] = true;
+    emptied(arrive_frame(waiting, &estimate(3, 1, 1, (0, 0))), &[2]);
+}
+
+#[test]
+fn a_best_estimate_that_is_not_there_takes_no_part() {
+    let mut replica = give_up(ticked(3, 2)).replica;
+    replica.has_best = false;
+    replica.best.base_view = 77;
+    let taken = arrive_frame(replica, &estimate(3, 1, 1, (0, 1)));
+    assert_eq!(taken.sent().state[0], 30);
 }
 
 #[test]
 fn more_boxes_heard_than_a_majority_go_on_too() {
     let mut replica = tick(fresh(5, 1), 1).replica;
-    replica.heard[..4].fill(true);
+    replica.heard[1..=4].fill(true);
     assert_ignored(replica, &ack(2, 1, 0));
     let taken = arrive_frame(replica, &ack(5, 1, 0));
     assert!(taken.replica.decided);
@@ -411,10 +463,8 @@ fn more_boxes_heard_than_a_majority_go_on_too() {
 #[test]
 fn a_best_estimate_handed_in_takes_part() {
     let mut replica = give_up(ticked(3, 2)).replica;
-    let mut best = replica.best.unwrap();
-    best.base_view = 77;
-    best.estimate.state[0] = 1234;
-    replica.best = Some(best);
+    replica.best.base_view = 77;
+    replica.best.estimate.state[0] = 1234;
     let taken = arrive_frame(replica, &estimate(3, 1, 1, (0, 1)));
     assert_eq!(taken.sent().state[0], 1234);
 }

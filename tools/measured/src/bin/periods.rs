@@ -13,7 +13,7 @@ use second::replica::{Areas, Replica};
 type FrameArea = [u8; 69];
 type CommandArea = [u8; 24];
 
-/// The calls that are counted, each behind a function that is not inlined, so that callgrind has them by name.
+/// The calls that are counted, each in a function that is not inlined, so that callgrind has them by name.
 mod steps {
     use super::*;
 
@@ -46,7 +46,7 @@ struct Group<const N: usize> {
 
 impl<const N: usize> Group<N> {
     fn new(n: usize, m: usize, p: usize) -> Self {
-        let settings = Law::new(n, m, p).settings();
+        let settings = Law::new(n, m, p).second_settings();
         let number = |j: usize| u8::try_from(j).expect("at most 9");
         Group {
             replicas: array::from_fn(|j| {

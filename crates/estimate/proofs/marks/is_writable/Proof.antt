@@ -5,20 +5,20 @@ use Rattle.estimate.specs.Format.{writable}
 use Rattle.estimate.proofs.marks.is_writable.Statement.{statement}
 use Rattle.estimate.proofs.marks.is_writable.Tie as tie
 
-has-stray-mark-requires : tie.Need-has-stray-mark-requires
-has-stray-mark-requires c κs = search needs
+has-mark-beyond-requires : tie.Need-has-mark-beyond-requires
+has-mark-beyond-requires c κs = search needs
 
 returns : tie.Need-returns
 unfolding writable
-returns c = rw (sym (c .before .has-stray-mark .ensures) ∙ c .if1 .taken)
+returns c = rw (sym (c .before .has-mark-beyond .ensures) ∙ c .if1 .taken)
 
 absent-zero-requires : tie.Need-absent-zero-requires
 absent-zero-requires c κs = search needs
 
 returns-2 : tie.Need-returns-2
 unfolding writable
-returns-2 c = rw (sym (c .before .before .has-stray-mark .ensures) ∙ c .before .if1 .left) (c .absent-zero .ensures)
+returns-2 c = rw (sym (c .before .before .has-mark-beyond .ensures) ∙ c .before .if1 .left) (c .absent-zero .ensures)
 
 pub is-writable-spec : {M : Type 1} → statement M
 is-writable-spec =
-    tie.close (tie.spec has-stray-mark-requires returns absent-zero-requires returns-2)
+    tie.close (tie.spec has-mark-beyond-requires returns absent-zero-requires returns-2)

@@ -1,4 +1,4 @@
--- `estimate::parts::put_estimate` meets its contract: the values, the byte of marks and the values are put one behind the other. Assumes nothing.
+-- `estimate::parts::put_estimate` meets its contract: the values, the byte of marks and the values are put one after the other. Assumes nothing.
 use mathlib.Core.Path.{_≡_, ap, _∙_}
 use mathlib.Core.List.{[], _∷_, _++_, append-assoc}
 use Prim.Native.Nat.{ℕ, _+_}
@@ -36,8 +36,8 @@ put-values-requires c κs = search needs
 state-length-requires : tie.Need-state-length-requires
 state-length-requires c κs = search needs
 
-add-behind : tie.Need-add-behind
-add-behind c = search needs
+add-readings-at : tie.Need-add-readings-at
+add-readings-at c = search needs
 
 marks-byte-requires : tie.Need-marks-byte-requires
 marks-byte-requires c κs = search needs
@@ -80,11 +80,11 @@ returns c =
     let at = s .args .at in
     let first = length-first n x (omega (arith, six s, s .pre .0)) in
     let second = length-first m (y .values) (omega (arith, four s, s .pre .1)) in
-    let behind = start .state-length .result in
+    let length = start .state-length .result in
     let here = start .state-length .ensures in
-    let marked = mark .put-byte .ensures ∙ ap (λ (k : ℕ). put (states .put-values .last .1 .0) (at + behind) (k ∷ [])) (mark .before .marks-byte .ensures) in
-    then-put l _ _ at (at + behind + 1) (valuesBytes (take n x) ++ (marksByte y ∷ [])) (valuesBytes (take m (y .values)))
-    (then-put l _ _ at (at + behind) (valuesBytes (take n x)) (marksByte y ∷ [])
+    let marked = mark .put-byte .ensures ∙ ap (λ (k : ℕ). put (states .put-values .last .1 .0) (at + length) (k ∷ [])) (mark .before .marks-byte .ensures) in
+    then-put l _ _ at (at + length + 1) (valuesBytes (take n x) ++ (marksByte y ∷ [])) (valuesBytes (take m (y .values)))
+    (then-put l _ _ at (at + length) (valuesBytes (take n x)) (marksByte y ∷ [])
     (rw sub-zero at (states .put-values .ensures)) marked (omega (arith, first, here)) (omega (arith, here, s .pre)))
     (rw sub-zero at (c .before .before .put-values2 .ensures))
     (simp (length-append, first) (omega (arith, here)))
@@ -100,7 +100,7 @@ put-estimate-spec =
     part-put-values-end
     put-values-requires
     state-length-requires
-    add-behind
+    add-readings-at
     marks-byte-requires
     put-byte-requires
     sub-put-values-2

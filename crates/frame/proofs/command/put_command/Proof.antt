@@ -1,4 +1,4 @@
--- `frame::command::put_command` meets its contract: the four bytes, the period and the values are put one behind the other. Assumes nothing.
+-- `frame::command::put_command` meets its contract: the four bytes, the period and the values are put one after the other. Assumes nothing.
 use mathlib.Core.Path.{_≡_, refl, ap, _∙_}
 use mathlib.Core.List.{[], _∷_, _++_}
 use Prim.Native.Nat.{ℕ}

@@ -1,4 +1,4 @@
--- `frame::header::put_header` meets its contract: the four bytes and the four numbers are put one behind the other. Assumes nothing.
+-- `frame::header::put_header` meets its contract: the four bytes and the four numbers are put one after the other. Assumes nothing.
 use Rattle.bytes.specs.Areas.{put}
 use Prim.Native.Nat.{ℕ}
 use mathlib.Core.List.{[], _∷_}

@@ -1,4 +1,4 @@
--- `frame::parts::put_pairs` meets its contract: the four numbers are put one behind the other. Assumes nothing.
+-- `frame::parts::put_pairs` meets its contract: the four numbers are put one after the other. Assumes nothing.
 use mathlib.Core.Path.{refl, _∙_}
 use Prim.Native.Nat.{_+_}
 use native.Mathlib.Omega.{arith}

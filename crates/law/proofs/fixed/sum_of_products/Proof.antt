@@ -1,4 +1,4 @@
--- `law::fixed::sum_of_products` meets its contract: the total behind each product is the sum of as many, and no larger than as many of the largest.
+-- `law::fixed::sum_of_products` meets its contract: the total after each product is the sum of as many, and no larger than as many of the largest.
 -- Assumes nothing.
 use mathlib.Core.Path.{_≡_, refl, sym, ap, _∙_, subst}
 use mathlib.Core.Bool.{true}
@@ -56,7 +56,7 @@ module _ (s : tie.Start) where
       → (toZ w64 (ofZ w64 total) ≡ sum (s .args .n) term) × (natAbs (toZ w64 (ofZ w64 total)) ≤ s .args .n * largestProduct)
   whole k total t e fits = rw (toZ-ofZ fits) (subst (λ (n : ℕ). (total ≡ sum n term) × (natAbs total ≤ n * largestProduct)) e (t .is, t .size))
 
--- the total behind each call, and the way back to the start from there
+-- the total after each call, and the way back to the start from there
 abbrev start1 : tie.After-add-product → tie.Start
 start1 c = c .before .before .before .before
 

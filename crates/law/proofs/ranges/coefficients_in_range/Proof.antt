@@ -10,11 +10,11 @@ use Rattle.law.proofs.Sums.{table-holds}
 use Rattle.law.proofs.ranges.coefficients_in_range.Statement.{statement}
 use Rattle.law.proofs.ranges.coefficients_in_range.Tie as tie
 
--- the way back to the start from behind the first test
+-- the way back to the start from after the first test
 abbrev start : tie.Else1 → tie.Start
 start c = c .before .before .before .before .before
 
--- the tables that were found in range, behind each test
+-- the tables that were found in range, after each test
 a-passed : (c : tie.Else2) → let s = start (c .before .before) .args in tableInRange (cell (s .a .now) 6) (s .n) (s .n) ≡ true
 a-passed c = sym (c .before .table-in-range .ensures) ∙ not-false _ (c .if2 .left)
 

@@ -18,7 +18,7 @@ given s =
     let a = s .args in
     settingsOf (a .n) (a .m) (a .p) (a .a .now) (a .l .now) (a .c .now) (a .k .now) (a .low .now) (a .high .now)
 
--- behind the first test, and the way back to it from behind the second
+-- after the first test, and the way back to it from after the second
 abbrev settings : tie.Else1 → Settings
 settings c = given (c .before .before)
 

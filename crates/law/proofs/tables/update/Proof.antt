@@ -15,7 +15,7 @@ given s =
     let a = s .args in
     settingsOf (a .n) (a .m) (a .p) (a .a .now) (a .l .now) (a .c .now) (a .k .now) (a .low .now) (a .high .now)
 
--- behind the test: nothing is refused
+-- after the test: nothing is refused
 passed : (c : tie.Else1) → refusal (given (c .before .before .before)) ≡ 0
 passed c = sym (c .before .number-of .ensures ∙ c .before .before .check .ensures) ∙ c .if1 .left
 

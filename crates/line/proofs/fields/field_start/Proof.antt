@@ -1,4 +1,4 @@
--- `fields::field_start` meets its contract. The loop's invariant: what stands behind k spaces of the line stands behind `left` spaces of what
+-- `fields::field_start` meets its contract. The loop's invariant: what stands after k spaces of the line stands after `left` spaces of what
 -- lies from i on. The measure is what is left of the line. Assumes nothing.
 use mathlib.Core.Path.{_≡_, refl, sym, _∙_, ap}
 use Prim.Native.Nat.{_-_, _≤_, _<_}
@@ -6,13 +6,13 @@ use lib.ListN.{length, drop}
 use lib.Seq.{drop-length}
 use borrow.Author.Needs.{needs}
 use native.Mathlib.Omega.{arith}
-use Rattle.line.specs.Fields.{behindSpaces}
-use Rattle.line.proofs.FieldLaws.{behind-more, behind-found, behind-none}
+use Rattle.line.specs.Fields.{afterSpaces}
+use Rattle.line.proofs.FieldLaws.{after-more, after-found, after-none}
 use Rattle.line.proofs.fields.field_start.Statement.{statement}
 use Rattle.line.proofs.fields.field_start.Tie as tie
 
 abbrev Inv-loop : tie.InvT-loop
-Inv-loop line k left₀ i₀ left i = (i ≤ length line) × (behindSpaces line k ≡ behindSpaces (drop i line) left)
+Inv-loop line k left₀ i₀ left i = (i ≤ length line) × (afterSpaces line k ≡ afterSpaces (drop i line) left)
 
 abbrev μ-loop : tie.MeasureT-loop
 μ-loop line k left₀ i₀ left i = length line - i
@@ -23,7 +23,7 @@ loop-holds c = (omega arith, refl)
 returns : tie.Need-returns Inv-loop μ-loop
 returns c =
     let l = c .before .before .loop in
-    (l .inv .0, sym (l .inv .1 ∙ rw (c .if1 .taken) (behind-found _)))
+    (l .inv .0, sym (l .inv .1 ∙ rw (c .if1 .taken) (after-found _)))
 
 shared-slice-read-one-less : tie.Need-shared-slice-read-one-less Inv-loop μ-loop
 shared-slice-read-one-less c = search needs
@@ -42,7 +42,7 @@ loop-again c =
     let l = c .before .before .before .before .loop in
     let line = c .before .before .before .before .before .before .args .line .now in
     let h : l .i < length line = omega arith in
-    (omega arith, rw (c .one-less .ensures) (l .inv .1 ∙ behind-more line (l .i) (l .left) h (c .before .before .if1 .left)))
+    (omega arith, rw (c .one-less .ensures) (l .inv .1 ∙ after-more line (l .i) (l .left) h (c .before .before .if1 .left)))
 
 returns-2 : tie.Need-returns-2 Inv-loop μ-loop
 returns-2 c =
@@ -50,7 +50,7 @@ returns-2 c =
     let line = c .before .before .before .args .line .now in
     let e : l .i ≡ length line = omega arith in
     let none = ap (λ i. drop i line) e ∙ drop-length line in
-    (l .inv .0, none ∙ sym (l .inv .1 ∙ rw none (behind-none (l .left))))
+    (l .inv .0, none ∙ sym (l .inv .1 ∙ rw none (after-none (l .left))))
 
 pub field-start-spec : {M : Type 1} → statement M
 field-start-spec =

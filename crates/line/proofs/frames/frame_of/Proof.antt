@@ -4,7 +4,7 @@ use Prim.Native.Nat.{_+_, _*_, _-_}
 use borrow.Author.Needs.{needs}
 use native.Mathlib.Omega.{arith}
 use Rattle.line.specs.Frames.{frameOf}
-use Rattle.lists.proofs.Parts.{none-beyond, bytes-behind}
+use Rattle.lists.proofs.Parts.{none-beyond, bytes-after}
 use Rattle.line.proofs.frames.frame_of.Statement.{statement}
 use Rattle.line.proofs.frames.frame_of.Tie as tie
 
@@ -38,7 +38,7 @@ part-result-end-2 c = search needs
 
 returns-2 : tie.Need-returns-2
 unfolding frameOf
-returns-2 c = let s = c .before .before .before .args in bytes-behind (s .table .now) (69 * s .f) (s .size) (c .before .if2 .taken)
+returns-2 c = let s = c .before .before .before .args in bytes-after (s .table .now) (69 * s .f) (s .size) (c .before .if2 .taken)
 
 add-result : tie.Need-add-result
 add-result c = search needs

@@ -68,18 +68,18 @@ returns-2 : tie.Need-returns-2
 unfolding arriveOutcome
 returns-2 c =
     let s = start
-    (c .before .before .before .before .before .before .before .before .before .before .before .before .before .before .before .before .before .before .before) .args .t1 in
+    (c .before .before .before .before .before .before .before .before .before .before .before .before .before .before .before .before .before .before) .args .t1 in
     let area = start
-    (c .before .before .before .before .before .before .before .before .before .before .before .before .before .before .before .before .before .before .before) .args .command .now in
-    let moved = c .before .before .before .before .before .before .before .before .before .before .before .before .before .before .before .arrive-bytes .result in
-    let w = c .before .before .before .before .issue .ensures in
+    (c .before .before .before .before .before .before .before .before .before .before .before .before .before .before .before .before .before .before) .args .command .now in
+    let moved = c .before .before .before .before .before .before .before .before .before .before .before .before .before .before .arrive-bytes .result in
+    let w = c .before .before .before .issue .ensures in
     let same = command-lent (s .settings .law) (moved .issues) (moved .held) in
     let bytes : Option (Command (List ℤ)) → List ℕ = issuedBytes (s .settings .law .p) in
     rw (c .step-of .ensures)
     (checked-gives _ _ _ _ (passed
-    (c .before .before .before .before .before .before .before .before .before .before .before .before .before .before .before .before .before .before))
+    (c .before .before .before .before .before .before .before .before .before .before .before .before .before .before .before .before .before))
     (gives-issued (s .settings)
-    (c .before .before .before .before .before .before .before .before .before .before .before .before .before .before .before .arrive-bytes .ensures
+    (c .before .before .before .before .before .before .before .before .before .before .before .before .before .before .arrive-bytes .ensures
     (s .settings .law)) _
     (w .0 ∙ ap (λ k. length (bytes k)) same) (w .1 ∙ ap (λ k. over (bytes k) area) same)))
 

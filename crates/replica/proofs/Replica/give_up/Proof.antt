@@ -55,10 +55,10 @@ same-length c = search needs
 returns-2 : tie.Need-returns-2
 unfolding giveUpOutcome
 returns-2 c =
-    let s = start (c .before .before .before .before .before .before .before .before) .args .t1 in
+    let s = start (c .before .before .before .before .before .before .before) .args .t1 in
     rw (c .step-of .ensures)
-    (checked-gives _ _ _ _ (passed (c .before .before .before .before .before .before .before))
-    (gives-silent (s .settings) (c .before .before .before .before .give-up-view .ensures (s .settings .law)) (give-up-silent (s .settings .law)
+    (checked-gives _ _ _ _ (passed (c .before .before .before .before .before .before))
+    (gives-silent (s .settings) (c .before .before .before .give-up-view .ensures (s .settings .law)) (give-up-silent (s .settings .law)
     (memberOf (s .settings)) (heldIn (s .held)) .command) _))
 
 pub give-up-spec : {M : Type 1} → statement M

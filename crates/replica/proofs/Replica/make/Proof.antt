@@ -2,7 +2,7 @@
 use mathlib.Core.Path.{sym, ap, _∙_}
 use native.Mathlib.Omega.{arith}
 use Rattle.law.proofs.Laws.{sizes-accepted}
-use Rattle.scram.specs.declared.Answer.the-variants.{Refused}
+use Rattle.scram.specs.Answers.{Refused}
 use Rattle.replica.specs.Calls.{freshOf}
 use Rattle.replica.proofs.Accepted.{accepted}
 use Rattle.replica.proofs.Calls.{made-done, made-refused}

@@ -97,16 +97,16 @@ same-length c = search needs
 returns-3 : tie.Need-returns-3
 unfolding tickOutcome
 returns-3 c =
-    let s = start (c .before .before .before .before .before .before .before .before .before .before .before .before .before) .args .t1 in
-    let y = start (c .before .before .before .before .before .before .before .before .before .before .before .before .before) .args .readings in
+    let s = start (c .before .before .before .before .before .before .before .before .before .before .before .before) .args .t1 in
+    let y = start (c .before .before .before .before .before .before .before .before .before .before .before .before) .args .readings in
     let n = ticked (lawOf (s .settings .law)) (heldIn (s .held)) (normalised (s .settings .law .m) y) in
     rw (c .step-of .ensures)
-    (checked-gives _ _ _ _ (passed (c .before .before .before .before .before .before .before .before .before .before .before .before))
-    (rw (← ticking (c .before .before .before .before .before .before .before .before .before) .same)
+    (checked-gives _ _ _ _ (passed (c .before .before .before .before .before .before .before .before .before .before .before))
+    (rw (← ticking (c .before .before .before .before .before .before .before .before) .same)
     (gives-silent (s .settings)
-    (rw (c .before .before .before .before .before .before .ticked .ensures (s .settings .law) (updated
-    (c .before .before .before .before .before .before .before .before .before .before .before .before .before .before))) at
-    (c .before .before .before .before .after-tick .ensures (s .settings .law)))
+    (rw (c .before .before .before .before .before .ticked .ensures (s .settings .law) (updated
+    (c .before .before .before .before .before .before .before .before .before .before .before .before .before))) at
+    (c .before .before .before .after-tick .ensures (s .settings .law)))
     (after-tick-silent (s .settings .law) (memberOf (s .settings)) n .command) _)))
 
 pub tick-spec : {M : Type 1} → statement M

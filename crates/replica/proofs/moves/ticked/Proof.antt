@@ -3,11 +3,11 @@ use borrow.Author.Needs.{needs}
 use Rattle.replica.proofs.moves.ticked.Statement.{statement}
 use Rattle.replica.proofs.moves.ticked.Tie as tie
 
-next-state-requires : tie.Need-next-state-requires
-next-state-requires c κs = search needs
-
 normalise-requires : tie.Need-normalise-requires
 normalise-requires c κs = search needs
+
+next-estimate-requires : tie.Need-next-estimate-requires
+next-estimate-requires c κs = search needs
 
 no-best-requires : tie.Need-no-best-requires
 no-best-requires c κs = search needs
@@ -18,8 +18,8 @@ add-next c = search needs
 returns : tie.Need-returns
 returns c =
     λ law e.
-    rw (c .before .before .before .before .next-state .ensures law e, c .before .before .before .normalise .ensures, c .before .before .no-best .ensures law)
+    rw (c .before .before .before .next-estimate .ensures law e, c .before .before .before .before .normalise .ensures, c .before .before .no-best .ensures law)
 
 pub ticked-spec : {M : Type 1} → statement M
 ticked-spec =
-    tie.close (tie.spec next-state-requires normalise-requires no-best-requires add-next returns)
+    tie.close (tie.spec normalise-requires next-estimate-requires no-best-requires add-next returns)

@@ -14,13 +14,13 @@ ten : (c : tie.Start) → length (c .args .t1) ≡ 10
 ten c = search needs
 
 -- a box without a place was not heard
-behind : (heard : List Bool) (j : ℕ) → length heard ≤ j → getD heard j false ≡ false
-behind [] j h = refl
-behind (b ∷ heard) zero h = absurd (omega arith)
-behind (b ∷ heard) (suc j) h = behind heard j (omega arith)
+beyond : (heard : List Bool) (j : ℕ) → length heard ≤ j → getD heard j false ≡ false
+beyond [] j h = refl
+beyond (b ∷ heard) zero h = absurd (omega arith)
+beyond (b ∷ heard) (suc j) h = beyond heard j (omega arith)
 
 returns : tie.Need-returns
-returns c = sym (pick-false _ 1 0 (behind (c .before .args .t1) (c .before .args .j) (omega (arith, ten (c .before)))))
+returns c = sym (pick-false _ 1 0 (beyond (c .before .args .t1) (c .before .args .j) (omega (arith, ten (c .before)))))
 
 array-read-if2 : tie.Need-array-read-if2
 array-read-if2 c = search needs

@@ -1,7 +1,8 @@
 -- `output::group` meets its contract. Assumes nothing.
 use borrow.Author.Needs.{needs}
-use mathlib.Core.Path.{sym, _∙_}
+use mathlib.Core.Path.{sym, ap, _∙_}
 use native.Mathlib.Omega.{arith}
+use Rattle.scram.specs.Answers.{answered}
 use Rattle.script.proofs.ScriptLaws.{prints-same, puts-prints}
 use Rattle.script.proofs.Groups.{group-made, group-refused, group-never}
 use Rattle.script.proofs.LineLengths.{refusal-length}
@@ -36,14 +37,14 @@ returns : tie.Need-returns
 returns c =
     let a = c .before .before .before .before .before .before .before .before .before .args in
     prints-same (sym (group-made (a .settings) (a .text .now) (sym
-    (c .before .before .before .before .before .before .make .ensures .0) ∙ c .before .before .before .before .enum-told .given .1)))
+    (c .before .before .before .before .before .before .make .ensures .0) ∙ ap answered (c .before .before .before .before .enum-told .given .1))))
     (c .before .before .play-script .ensures)
 
 same-length-2 : tie.Need-same-length-2
 same-length-2 c = search needs
 
 returns-2 : tie.Need-returns-2
-returns-2 c = absurd (group-never (c .before .before .before .before .before .before .before .before .before .args .settings) (c .before .before .before .before .before .before .before .before .before .args .text .now) (sym (c .before .before .before .before .before .before .make .ensures .0) ∙ c .before .before .before .before .enum-told2 .given .1))
+returns-2 c = absurd (group-never (c .before .before .before .before .before .before .before .before .before .args .settings) (c .before .before .before .before .before .before .before .before .before .args .text .now) (sym (c .before .before .before .before .before .before .make .ensures .0) ∙ ap answered (c .before .before .before .before .enum-told2 .given .1)))
 
 same-length-3 : tie.Need-same-length-3
 same-length-3 c = search needs
@@ -52,7 +53,7 @@ returns-3 : tie.Need-returns-3
 returns-3 c =
     let a = c .before .before .before .before .before .before .before .before .before .before .args in
     prints-same (sym (group-refused (a .settings) (a .text .now) _ (sym
-    (c .before .before .before .before .before .before .before .make .ensures .0) ∙ c .before .before .before .before .before .answer .given .1)))
+    (c .before .before .before .before .before .before .before .make .ensures .0) ∙ ap answered (c .before .before .before .before .before .answer .given .1))))
     (puts-prints (omega (
       arith,
       c .before .before .before .before .before .before .before .before .before .before .pre,

@@ -1,20 +1,20 @@
 -- `output::line_end` meets its contract. The loop's invariant: the line's bytes up to i, and then what stands before a line feed, are the line, and
--- what stands behind it is what stands behind the line from i on. The measure is what is left of the text. Assumes nothing.
+-- what stands after it is what stands after the line from i on. The measure is what is left of the text. Assumes nothing.
 use mathlib.Core.Path.{_≡_, refl, sym, _∙_}
 use mathlib.Core.List.{_++_, append-nil}
 use Prim.Native.Nat.{_-_, _≤_, _<_}
 use lib.ListN.{length, drop, take}
 use borrow.Author.Needs.{needs}
 use native.Mathlib.Omega.{arith}
-use Rattle.script.specs.Script.{firstLine, behindLine}
-use Rattle.script.proofs.ScriptLaws.{line-more, behind-more, line-feed, behind-feed, line-none, behind-none}
+use Rattle.script.specs.Script.{firstLine, afterLine}
+use Rattle.script.proofs.ScriptLaws.{line-more, line-end-more, line-feed, line-end-feed, line-none, line-end-none}
 use Rattle.script.proofs.output.line_end.Statement.{statement}
 use Rattle.script.proofs.output.line_end.Tie as tie
 
 abbrev Inv-loop : tie.InvT-loop
 Inv-loop text from i₀ i =
     (from ≤ i) × (i ≤ length text) × (firstLine (drop from text) ≡ take (i - from) (drop from text) ++ firstLine (drop i text))
-    × (behindLine (drop from text) ≡ behindLine (drop i text))
+    × (afterLine (drop from text) ≡ afterLine (drop i text))
 
 abbrev μ-loop : tie.MeasureT-loop
 μ-loop text from i₀ i = length text - i
@@ -35,7 +35,7 @@ returns c =
       l .inv .0,
       l .inv .1,
       sym (l .inv .2 ∙ rw (line-feed t (l .i) h (c .if1 .taken)) (append-nil _)),
-      behind-feed t (l .i) h (c .if1 .taken) ∙ sym (l .inv .3),
+      line-end-feed t (l .i) h (c .if1 .taken) ∙ sym (l .inv .3),
     )
 
 add-i : tie.Need-add-i Inv-loop μ-loop
@@ -50,14 +50,14 @@ loop-again c =
     let s = c .before .before .before .before .args in
     let t = s .text .now in
     let h : l .i < length t = omega arith in
-    (omega arith, omega arith, l .inv .2 ∙ line-more t (s .from) (l .i) (l .inv .0) h (c .if1 .left), l .inv .3 ∙ behind-more t (l .i) h (c .if1 .left))
+    (omega arith, omega arith, l .inv .2 ∙ line-more t (s .from) (l .i) (l .inv .0) h (c .if1 .left), l .inv .3 ∙ line-end-more t (l .i) h (c .if1 .left))
 
 returns-2 : tie.Need-returns-2 Inv-loop μ-loop
 returns-2 c =
     let l = c .before .loop in
     let t = c .before .before .args .text .now in
     let h : length t ≤ l .i = omega arith in
-    (l .inv .0, l .inv .1, sym (l .inv .2 ∙ rw (line-none t (l .i) h) (append-nil _)), behind-none t (l .i) h ∙ sym (l .inv .3))
+    (l .inv .0, l .inv .1, sym (l .inv .2 ∙ rw (line-none t (l .i) h) (append-nil _)), line-end-none t (l .i) h ∙ sym (l .inv .3))
 
 pub line-end-spec : {M : Type 1} → statement M
 line-end-spec =

@@ -10,7 +10,7 @@ use Rattle.replica.specs.declared.Replica.{Replica}
 use Rattle.script.specs.Printing.{headerLine}
 use Rattle.script.specs.Play.{most, tableLength}
 use Rattle.script.specs.Script.{Left, left, linesOf, played, unplayed, leftBy}
-use Rattle.script.proofs.ScriptLaws.{prints-same, prints-behind}
+use Rattle.script.proofs.ScriptLaws.{prints-same, prints-after}
 use Rattle.script.proofs.output.play_script.Statement.{statement}
 use Rattle.script.proofs.output.play_script.Tie as tie
 
@@ -63,7 +63,7 @@ returns c =
     (c .before .before .before .before .before .before .before .before .before .before .before .before .at-most .ensures) same in
     let p = c .before .before .before .before .play-lines .ensures in
     prints-same whole
-    (prints-behind _ _ _ headerLine (a .output .now) _ _ (h .ensures) (omega
+    (prints-after _ _ _ headerLine (a .output .now) _ _ (h .ensures) (omega
     (arith, c .before .before .before .before .before .before .before .before .before .before .before .before .before .before .before .before .pre))
     (p .0) (p .1))
 

@@ -25,8 +25,8 @@ part-open-end c = search needs
 open-requires : tie.Need-open-requires
 open-requires c κs = search needs
 
-behind-requires : tie.Need-behind-requires
-behind-requires c κs = search needs
+after-line-requires : tie.Need-after-line-requires
+after-line-requires c κs = search needs
 
 opened-requires : tie.Need-opened-requires
 opened-requires c κs = search needs
@@ -36,7 +36,7 @@ unfolding rigOutput
 returns c =
     let line = c .before .before .before .before .before .before .line-end .ensures in
     let first = c .before .before .before .before .«open» .ensures ∙ ap (λ (l : List ℕ). openedBy l (sizesIn l)) (line .2) in
-    let rest = c .before .before .behind .ensures ∙ line .3 in
+    let rest = c .before .before .after-line .ensures ∙ line .3 in
     prints-same (ap₂ (λ (o : Opened) (t : List ℕ). openedOutput (o .opening) (o .settings) t) first rest) (c .opened .ensures)
 
 pub rig-spec : {M : Type 1} → statement M
@@ -48,6 +48,6 @@ rig-spec =
     part-open-start
     part-open-end
     open-requires
-    behind-requires
+    after-line-requires
     opened-requires
     returns)

@@ -1,6 +1,7 @@
 -- `printing::put_answer` meets its contract. Assumes nothing.
 use mathlib.Core.Path.{sym, ap}
 use Rattle.text.proofs.PrintingLaws.{puts-same}
+use Rattle.scram.specs.Answers.{answered}
 use Rattle.script.specs.Printing.{answerWord}
 use borrow.Author.Needs.{needs}
 use Rattle.script.proofs.printing.put_answer.Statement.{statement}
@@ -36,7 +37,7 @@ same-length c = search needs
 returns : tie.Need-returns
 unfolding answerWord
 returns c =
-    puts-same (ap answerWord (sym (c .before .before .before .before .before .enum-told .given .1))) (c .before .before .put-word .ensures)
+    puts-same (ap (λ a. answerWord (answered a)) (sym (c .before .before .before .before .before .enum-told .given .1))) (c .before .before .put-word .ensures)
 
 same-length-2 : tie.Need-same-length-2
 same-length-2 c = search needs
@@ -44,7 +45,7 @@ same-length-2 c = search needs
 returns-2 : tie.Need-returns-2
 unfolding answerWord
 returns-2 c =
-    puts-same (ap answerWord (sym (c .before .before .before .before .before .enum-told2 .given .1))) (c .before .before .put-word2 .ensures)
+    puts-same (ap (λ a. answerWord (answered a)) (sym (c .before .before .before .before .before .enum-told2 .given .1))) (c .before .before .put-word2 .ensures)
 
 same-length-3 : tie.Need-same-length-3
 same-length-3 c = search needs
@@ -52,7 +53,7 @@ same-length-3 c = search needs
 returns-3 : tie.Need-returns-3
 unfolding answerWord
 returns-3 c =
-    puts-same (ap answerWord (sym (c .before .before .before .before .before .answer .given .1))) (c .before .before .put-refusal .ensures)
+    puts-same (ap (λ a. answerWord (answered a)) (sym (c .before .before .before .before .before .answer .given .1))) (c .before .before .put-refusal .ensures)
 
 pub put-answer-spec : {M : Type 1} → statement M
 put-answer-spec =

@@ -1,4 +1,5 @@
 -- `printing::step_line` meets its contract. Assumes nothing.
+use Rattle.scram.specs.Answers.{answered}
 use Rattle.script.specs.Printing.{stepLine}
 use Rattle.text.proofs.PrintingLaws.{then-puts}
 use Rattle.script.proofs.LineLengths.{line-length}
@@ -38,7 +39,7 @@ returns c =
           (then-puts (c .before .before .before .before .before .before .before .before .before .before .before .before .before .before .put-state .ensures .0)
           (then-puts (c .before .before .before .before .before .before .before .before .before .before .put-sent .ensures)
           (then-puts (c .before .before .before .before .before .before .put-command .ensures) (c .before .before .put-byte .ensures))))),
-      line-length (s .args .number) (s .args .who) (s .args .s) (s .args .command .now)
+      line-length (s .args .number) (s .args .who) (answered (s .args .s .answer)) (s .args .s .replica) (s .args .s .frame) (s .args .s .command) (s .args .command .now)
           (c .before .before .before .before .before .before .before .before .before .before .before .before .before .before .put-state .ensures .1),
     )
 

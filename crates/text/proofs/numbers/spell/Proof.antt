@@ -1,4 +1,4 @@
--- `numbers::spell` meets its contract. The loop's invariant: what the digits spell is what those from i on spell behind n. The measure is the
+-- `numbers::spell` meets its contract. The loop's invariant: what the digits spell is what those from i on spell after n. The measure is the
 -- number of digits left. Assumes nothing.
 use mathlib.Core.Path.{_≡_, refl, sym, _∙_}
 use Prim.Native.Nat.{_-_, _≤_}

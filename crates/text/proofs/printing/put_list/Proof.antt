@@ -7,7 +7,7 @@ use mir.ValLaws.{toZ-ofZ}
 use native.Mathlib.Omega.{arith}
 use Rattle.lists.specs.Places.{entry}
 use Rattle.lists.proofs.Parts.{to-the-end}
-use Rattle.text.specs.Printing.{behindCommas}
+use Rattle.text.specs.Printing.{afterCommas}
 use Rattle.text.proofs.PrintingLaws.{then-puts, puts-same, put-nothing, listed-none, listed-some}
 use borrow.Author.Needs.{needs}
 use Rattle.text.proofs.printing.put_list.Statement.{statement}
@@ -25,17 +25,17 @@ shared-slice-copy-out-put-signed c = search needs
 put-signed-requires : tie.Need-put-signed-requires
 put-signed-requires c κs = search needs
 
-sub-put-behind-commas : tie.Need-sub-put-behind-commas
-sub-put-behind-commas c = search needs
+sub-put-after-commas : tie.Need-sub-put-after-commas
+sub-put-after-commas c = search needs
 
-part-put-behind-commas-start : tie.Need-part-put-behind-commas-start
-part-put-behind-commas-start c = search needs
+part-put-after-commas-start : tie.Need-part-put-after-commas-start
+part-put-after-commas-start c = search needs
 
-part-put-behind-commas-end : tie.Need-part-put-behind-commas-end
-part-put-behind-commas-end c = search needs
+part-put-after-commas-end : tie.Need-part-put-after-commas-end
+part-put-after-commas-end c = search needs
 
-put-behind-commas-requires : tie.Need-put-behind-commas-requires
-put-behind-commas-requires c κs = search needs
+put-after-commas-requires : tie.Need-put-after-commas-requires
+put-after-commas-requires c κs = search needs
 
 same-length : tie.Need-same-length
 same-length c = search needs
@@ -48,7 +48,7 @@ returns-2 c =
     (record { sfits = c .before .before .before .before .before .before .before .before .put-signed-arg2 .given }) in
     puts-same (listed-some (s .values .now) h)
     (then-puts (rw back at (c .before .before .before .before .before .before .before .put-signed .ensures))
-    (puts-same (ap behindCommas (to-the-end (s .values .now) 1)) (c .before .before .put-behind-commas .ensures)))
+    (puts-same (ap afterCommas (to-the-end (s .values .now) 1)) (c .before .before .put-after-commas .ensures)))
 
 pub put-list-spec : {M : Type 1} → statement M
 put-list-spec =
@@ -58,9 +58,9 @@ put-list-spec =
     returns
     shared-slice-copy-out-put-signed
     put-signed-requires
-    sub-put-behind-commas
-    part-put-behind-commas-start
-    part-put-behind-commas-end
-    put-behind-commas-requires
+    sub-put-after-commas
+    part-put-after-commas-start
+    part-put-after-commas-end
+    put-after-commas-requires
     same-length
     returns-2)

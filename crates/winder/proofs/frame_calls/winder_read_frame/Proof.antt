@@ -3,7 +3,7 @@ use mathlib.Core.Path.{_≡_, sym, ap, _∙_}
 use Prim.Native.Nat.{ℕ}
 use borrow.Author.Needs.{needs}
 use Rattle.frame.specs.declared.Frame.{Frame}
-use Rattle.winder.specs.FrameAreas.{endsOf, countersOf, marksOf}
+use Rattle.winder.specs.FrameAreas.{kindAndSenderOf, countersOf, marksOf}
 use Rattle.winder.proofs.Refused.{done, refused}
 use Rattle.winder.proofs.frame_calls.winder_read_frame.Statement.{statement}
 use Rattle.winder.proofs.frame_calls.winder_read_frame.Tie as tie
@@ -34,7 +34,7 @@ returns-2 c =
     let frame = read .ensures .1 in (
       answer,
       (
-        ap endsOf frame ∙ done _ _ _ (sym answer),
+        ap kindAndSenderOf frame ∙ done _ _ _ (sym answer),
         (
           ap countersOf frame ∙ done _ _ _ (sym answer),
           (

@@ -1,0 +1,51 @@
+-- What the law's calls answer and leave, in Rattle and for C programs. Assumes nothing.
+use mathlib.Core.Path.{_≡_, refl, sym, _∙_}
+use mathlib.Core.Logic.{inl}
+use mathlib.Core.List.{List}
+use Prim.Native.Nat.{ℕ}
+use lib.ListN.{replicate}
+use lib.IntN.{ℤ, pos}
+use Rattle.readings.specs.declared.Readings.{Readings}
+use Rattle.scram.specs.History.{In}
+use Rattle.law.specs.declared.Settings.{Settings}
+use Rattle.law.specs.Answer.{number}
+use Rattle.law.specs.Settings.{refusals, refusal}
+use Rattle.law.specs.Law.{commanded, issued}
+use Rattle.law.proofs.Laws.{updated-refused, commanded-refused, issued-refused}
+use Rattle.winder.specs.LawAreas.{readingsOf}
+use Rattle.winder.proofs.Refused.{refused}
+use Rattle.answers.specs.Answers.{numbered, usingLaw}
+use Rattle.answers.specs.Demand1.{CheckAnswers, UpdateAnswers, CommandAnswers, UpdateAreaAnswers, CommandAreaAnswers}
+use Rattle.answers.proofs.Numbers.{first-in, answers}
+
+module _ (s : Settings) where
+  law-in : In (numbered (refusal s)) usingLaw
+  unfolding refusal refusals
+  law-in = first-in usingLaw (inl refl) (refusals s) tt
+
+  pub check-answers : CheckAnswers s
+  check-answers r e = answers usingLaw tt (number r) (refusal s) e law-in (Unit {0}) (λ _. tt)
+
+  pub update-answers : (x : List ℤ) (y : Readings) → UpdateAnswers s x y
+  update-answers x y r e state =
+      answers usingLaw tt (number (r .answer)) (refusal s) e law-in (r .state ≡ x) (λ n. state ∙ sym (updated-refused s x y n))
+
+  -- commands that are 0 where the settings are refused
+  command-answers : (values : List ℤ) → ((refusal s ≡ 0 → ⊥) → replicate 4 (pos 0) ≡ values) → CommandAnswers s values
+  command-answers values zeros r e same =
+      answers usingLaw tt (number (r .answer)) (refusal s) e law-in (r .values ≡ replicate 4 (pos 0)) (λ n. same ∙ sym (zeros n))
+
+  pub commanded-answers : (x : List ℤ) → CommandAnswers s (commanded s x)
+  commanded-answers x = command-answers (commanded s x) (commanded-refused s x)
+
+  pub issued-answers : (x : List ℤ) (y : Readings) → CommandAnswers s (issued s x y)
+  issued-answers x y = command-answers (issued s x y) (issued-refused s x y)
+
+  pub update-area-answers : (present : List ℕ) (values state : List ℤ) → UpdateAreaAnswers s present values state
+  update-area-answers present values state r state′ e same =
+      answers usingLaw tt r (refusal s) e law-in (state′ ≡ state) (λ n. same ∙ sym (updated-refused s state (readingsOf present values) n))
+
+  pub command-area-answers : (state commands : List ℤ) → CommandAreaAnswers s state commands
+  command-area-answers state commands r commands′ e same =
+      answers usingLaw tt r (refusal s) e law-in (commands′ ≡ commands)
+      (λ n. same ∙ sym (refused (refusal s) (commanded s state) commands n))

@@ -1,0 +1,33 @@
+-- Demand 1 holds of every call. Assumes nothing.
+use Rattle.law.specs.Settings.{settingsOf}
+use Rattle.winder.specs.FrameAreas.{frameOf}
+use Rattle.answers.specs.Demand1.{DemandOne}
+use Rattle.answers.proofs.Replica.{make-answers, tick-call, give-up-call, arrive-call}
+use Rattle.answers.proofs.Law.{check-answers, update-answers, commanded-answers, issued-answers, update-area-answers, command-area-answers}
+use Rattle.answers.proofs.Frames.{read-answers, read-area-answers, read-command-answers, read-command-area-answers}
+use Rattle.answers.proofs.Frames.{write-answers, write-area-answers, write-command-answers}
+
+-- demand 1
+pub demand-1 : DemandOne
+demand-1 = record {
+  make = make-answers;
+  tick = λ given y frame command. tick-call given frame command y;
+  give-up = give-up-call;
+  arrive = λ given bytes frame command. arrive-call given frame command bytes;
+  check = check-answers;
+  update = update-answers;
+  command = commanded-answers;
+  tables-check = λ n m p a l c k low high. check-answers (settingsOf n m p a l c k low high);
+  tables-update = λ n m p a l c k low high. update-answers (settingsOf n m p a l c k low high);
+  tables-command = λ n m p a l c k low high. commanded-answers (settingsOf n m p a l c k low high);
+  tables-issue = λ n m p a l c k low high. issued-answers (settingsOf n m p a l c k low high);
+  read = read-answers;
+  write = write-answers;
+  write-command = write-command-answers;
+  read-command = read-command-answers;
+  winder-update = λ n m p a l c k low high. update-area-answers (settingsOf n m p a l c k low high);
+  winder-command = λ n m p a l c k low high. command-area-answers (settingsOf n m p a l c k low high);
+  winder-read-frame = read-area-answers;
+  winder-read-command = read-command-area-answers;
+  winder-write-frame = λ n m kindAndSender counters state present values. write-area-answers n m (frameOf kindAndSender counters state present values);
+}

@@ -1,0 +1,84 @@
+-- Which answers there are, and which of them each call can give: the numbers of the table "Where each refusal is made", place by place.
+use Prim.Native.Nat.{ℕ, _≤_}
+use mathlib.Core.Logic.{_≢_}
+use mathlib.Core.List.{List, [], _∷_, _++_, map}
+use lib.Dec.{eqb}
+use Rattle.lists.specs.Choice.{pick}
+use Rattle.scram.specs.Answers.{Answered, Done, Ignored, Refused}
+use Rattle.scram.specs.History.{In}
+
+-- ---- the table: the numbers of each place
+
+-- the place "settings": 1 is the group's, 2 to 4 are the law's
+abbrev pub settings : List ℕ
+settings = 1 ∷ 2 ∷ 3 ∷ 4 ∷ []
+
+-- the place "lent areas"
+abbrev pub areas : List ℕ
+areas = 5 ∷ []
+
+-- the place "tick"
+abbrev pub tick : List ℕ
+tick = 6 ∷ 7 ∷ []
+
+-- the place "frame"
+abbrev pub frame : List ℕ
+frame = 8 ∷ 9 ∷ 10 ∷ 11 ∷ []
+
+-- the place "raising"
+abbrev pub raising : List ℕ
+raising = 12 ∷ []
+
+-- ---- what each call can answer: nothing that is not in its list
+
+-- "Making settings refuses without a replica."
+abbrev pub making : List Answered
+making = Done ∷ map Refused settings
+
+-- "In view-change mode the view is then raised." No tick is ignored.
+abbrev pub ticking : List Answered
+ticking = Done ∷ map Refused (settings ++ areas ++ tick ++ raising)
+
+-- "a give-up by a normal coordinator" is ignored, and so are "give-ups in period 0 or in a decided period"
+abbrev pub givingUp : List Answered
+givingUp = Done ∷ Ignored ∷ map Refused (settings ++ areas ++ raising)
+
+-- "Frame refusals are found before any ground for ignoring"; no frame that arrives raises the view
+abbrev pub arriving : List Answered
+arriving = Done ∷ Ignored ∷ map Refused (settings ++ areas ++ frame)
+
+-- "The law's own calls refuse settings by 2 to 4 and refuse nothing else."
+abbrev pub usingLaw : List Answered
+usingLaw = Done ∷ map Refused (2 ∷ 3 ∷ 4 ∷ [])
+
+-- "Reading or writing a frame as a call of its own needs only n and m: it refuses by 2 for those, .. and both by 8"; reading a command is refused by
+-- the same numbers
+abbrev pub reading : List Answered
+reading = Done ∷ map Refused (2 ∷ 8 ∷ [])
+
+-- "writing by 5 for its area"
+abbrev pub writing : List Answered
+writing = Done ∷ map Refused (2 ∷ 5 ∷ 8 ∷ [])
+
+-- writing a command: 2 for p, 5 for its area
+abbrev pub writingCommand : List Answered
+writingCommand = Done ∷ map Refused (2 ∷ 5 ∷ [])
+
+-- ---- the claim about one call
+
+-- a number as an answer: 0 is "what was called for", another number is that refusal
+abbrev pub numbered : ℕ → Answered
+numbered number = pick (eqb number 0) Done (Refused number)
+
+-- "what was called for, an event ignored, or one of the numbered refusals"; the table has the numbers 1 to 12
+abbrev pub Listed : Answered → Type 0
+Listed Done = Unit {0}
+Listed Ignored = Unit {0}
+Listed (Refused number) = (1 ≤ number) × (number ≤ 12)
+
+-- "Every call, with all inputs, answers: what was called for, an event ignored, or one of the numbered refusals. Ignored or refused, the replica and
+-- each lent area hold what they held." `possible` are the answers of this call, and `Kept` says what holds what it held
+pub record Answers (possible : List Answered) (answer : Answered) (Kept : Type 0) : Type 0 where
+  pub listed : Listed answer
+  pub among : In answer possible
+  pub kept : answer ≢ Done → Kept

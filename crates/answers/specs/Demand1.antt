@@ -1,0 +1,167 @@
+-- DEMAND 1: "Every call, with all inputs, answers: what was called for, an event ignored, or one of the numbered refusals. Ignored or refused, the
+-- replica and each lent area hold what they held." It is stated of every result that keeps the call's contract, in the contract's own words. No call
+-- has a `requires`, so each call with each input has such a result. A name with ′ is an area after the call; areas that are lent to be read alone are
+-- not named, since nothing can write them.
+use Prim.Native.Nat.{ℕ}
+use mathlib.Core.Path.{_≡_}
+use mathlib.Core.List.{List}
+use lib.ListN.{length, replicate}
+use lib.IntN.{ℤ, pos}
+use Rattle.readings.specs.declared.Readings.{Readings}
+use Rattle.scram.specs.Answers.{Answered, answered}
+use Rattle.law.specs.declared.Settings as Law
+use Rattle.law.specs.declared.Answer.{Answer as LawAnswer}
+use Rattle.law.specs.declared.Updated.{Updated}
+use Rattle.law.specs.declared.Commanded.{Commanded}
+use Rattle.law.specs.Answer.{number as lawNumber}
+use Rattle.law.specs.Settings.{refusal, settingsOf}
+use Rattle.law.specs.Law.{updated, commanded, issued}
+use Rattle.bytes.specs.Areas.{over}
+use Rattle.frame.specs.declared.Frame.{Frame}
+use Rattle.frame.specs.declared.Parsed.{Parsed}
+use Rattle.frame.specs.declared.ParsedCommand.{ParsedCommand}
+use Rattle.frame.specs.declared.Written.{Written}
+use Rattle.frame.specs.Answers.{number}
+use Rattle.frame.specs.Fields.{blank}
+use Rattle.frame.specs.Reading.{readRefusal, readFrame}
+use Rattle.frame.specs.Writing.{writeRefusal, written}
+use Rattle.frame.specs.Command.{commandRefusal, commandWritten}
+use Rattle.frame.specs.CommandReading.{readCommandRefusal, readCommand, noCommand}
+use Rattle.winder.specs.Areas.{unlessRefused}
+use Rattle.winder.specs.LawAreas.{readingsOf, commandsAfter}
+use Rattle.winder.specs.FrameAreas.{frameOf, kindAndSenderOf, countersOf, marksOf, lengthAfter}
+use Rattle.replica.specs.declared.Settings.{Settings}
+use Rattle.replica.specs.declared.Replica.{Replica}
+use Rattle.replica.specs.declared.Made.{Made}
+use Rattle.replica.specs.declared.Stepped.{Stepped}
+use Rattle.replica.specs.Calls.{Outcomes, Gives, tickOutcome, giveUpOutcome, arriveOutcome, madeAnswer, made}
+use Rattle.answers.specs.Answers.{Answers, numbered, making, ticking, givingUp, arriving, usingLaw, reading, writing, writingCommand}
+use Rattle.answers.specs.Kept.{StepKept, NoReplica, WriteKept, FrameAreas, CommandAreas, WriteAreas}
+
+-- ---- the replica's calls
+
+-- making
+abbrev pub MakeAnswers : Settings → Type 0
+MakeAnswers s =
+    (r : Made) → answered (r .answer) ≡ madeAnswer s → r .replica ≡ made s
+    → Answers making (answered (r .answer)) (NoReplica (r .replica))
+
+-- a step with the outcome o: frame and command are the areas lent
+abbrev pub StepAnswers : List Answered → Replica → Outcomes → (frame command : List ℕ) → Type 0
+StepAnswers possible given o frame command =
+    (r : Stepped) (frame′ command′ : List ℕ) → Gives (given .settings) o r frame frame′ command command′
+    → Answers possible (answered (r .answer)) (StepKept given r frame frame′ command command′)
+
+-- ---- the law's calls, of settings or of tables that are settings
+
+-- looking at settings: nothing is lent, and nothing but the answer comes back
+abbrev pub CheckAnswers : Law.Settings → Type 0
+CheckAnswers s = (r : LawAnswer) → lawNumber r ≡ refusal s → Answers usingLaw (numbered (lawNumber r)) (Unit {0})
+
+-- an update: refused, it gives the state handed in
+abbrev pub UpdateAnswers : Law.Settings → List ℤ → Readings → Type 0
+UpdateAnswers s x y =
+    (r : Updated) → lawNumber (r .answer) ≡ refusal s → r .state ≡ updated s x y → Answers usingLaw (numbered (lawNumber (r .answer))) (r .state ≡ x)
+
+-- the commands of a state, or of the state after a period: refused, each place holds 0
+abbrev pub CommandAnswers : Law.Settings → List ℤ → Type 0
+CommandAnswers s values =
+    (r : Commanded) → lawNumber (r .answer) ≡ refusal s → r .values ≡ values
+    → Answers usingLaw (numbered (lawNumber (r .answer))) (r .values ≡ replicate 4 (pos 0))
+
+-- ---- the frames' calls
+
+-- reading: refused, the frame is blank
+abbrev pub ReadAnswers : (n m : ℕ) → List ℕ → Type 0
+ReadAnswers n m bytes =
+    (r : Parsed) → number (r .answer) ≡ readRefusal n m bytes → r .frame ≡ readFrame n m bytes
+    → Answers reading (numbered (number (r .answer))) (r .frame ≡ blank)
+
+-- reading a command: refused, it is blank
+abbrev pub ReadCommandAnswers : (p : ℕ) → List ℕ → Type 0
+ReadCommandAnswers p bytes =
+    (r : ParsedCommand) → number (r .answer) ≡ readCommandRefusal p bytes → r .command ≡ readCommand p bytes
+    → Answers reading (numbered (number (r .answer))) (r .command ≡ noCommand)
+
+-- writing a frame, or a command: `refused` is its number, or 0, and `bytes` is what it writes
+abbrev pub WriteAnswers : List Answered → (refused : ℕ) (bytes area : List ℕ) → Type 0
+WriteAnswers possible refused bytes area =
+    (r : Written) (area′ : List ℕ) → number (r .answer) ≡ refused → r .length ≡ length bytes → area′ ≡ over bytes area
+    → Answers possible (numbered (number (r .answer))) (WriteKept r area area′)
+
+-- ---- the calls of C programs: they answer by the number alone
+
+-- winder_update
+abbrev pub UpdateAreaAnswers : Law.Settings → (present : List ℕ) (values state : List ℤ) → Type 0
+UpdateAreaAnswers s present values state =
+    (r : ℕ) (state′ : List ℤ) → r ≡ refusal s → state′ ≡ updated s state (readingsOf present values) → Answers usingLaw (numbered r) (state′ ≡ state)
+
+-- winder_command
+abbrev pub CommandAreaAnswers : Law.Settings → (state commands : List ℤ) → Type 0
+CommandAreaAnswers s state commands =
+    (r : ℕ) (commands′ : List ℤ) → r ≡ refusal s → commands′ ≡ commandsAfter s state commands → Answers usingLaw (numbered r) (commands′ ≡ commands)
+
+-- winder_read_frame
+abbrev pub ReadAreaAnswers : (n m : ℕ) → List ℕ → FrameAreas → Type 0
+ReadAreaAnswers n m bytes areas =
+    (r : ℕ) (areas′ : FrameAreas) → r ≡ readRefusal n m bytes
+    → areas′ .kindAndSender ≡ unlessRefused (readRefusal n m bytes) (kindAndSenderOf (readFrame n m bytes)) (areas .kindAndSender)
+    → areas′ .counters ≡ unlessRefused (readRefusal n m bytes) (countersOf (readFrame n m bytes)) (areas .counters)
+    → areas′ .state ≡ unlessRefused (readRefusal n m bytes) (readFrame n m bytes .estimate .state) (areas .state)
+    → areas′ .present ≡ unlessRefused (readRefusal n m bytes) (marksOf (readFrame n m bytes .estimate .readings)) (areas .present)
+    → areas′ .values ≡ unlessRefused (readRefusal n m bytes) (readFrame n m bytes .estimate .readings .values) (areas .values)
+    → Answers reading (numbered r) (areas′ ≡ areas)
+
+-- winder_read_command
+abbrev pub ReadCommandAreaAnswers : (p : ℕ) → List ℕ → CommandAreas → Type 0
+ReadCommandAreaAnswers p bytes areas =
+    (r : ℕ) (areas′ : CommandAreas) → r ≡ readCommandRefusal p bytes
+    → areas′ .period ≡ unlessRefused (readCommandRefusal p bytes) (readCommand p bytes .period) (areas .period)
+    → areas′ .commands ≡ unlessRefused (readCommandRefusal p bytes) (readCommand p bytes .values) (areas .commands)
+    → Answers reading (numbered r) (areas′ ≡ areas)
+
+-- winder_write_frame, of the frame f in the areas that the caller lends to read
+abbrev pub WriteAreaAnswers : (n m : ℕ) → Frame → WriteAreas → Type 0
+WriteAreaAnswers n m f areas =
+    (r : ℕ) (areas′ : WriteAreas) → r ≡ writeRefusal n m f (areas .area)
+    → areas′ .area ≡ over (written n m f (areas .area)) (areas .area)
+    → areas′ .length ≡ lengthAfter n m f (areas .area) (areas .length)
+    → Answers writing (numbered r) (areas′ ≡ areas)
+
+-- ---- demand 1: every call, with all inputs
+
+pub record DemandOne : Type 0 where
+  -- crate replica
+  pub make : (s : Settings) → MakeAnswers s
+  pub tick : (given : Replica) (y : Readings) (frame command : List ℕ)
+      → StepAnswers ticking given (tickOutcome given y (length frame) (length command)) frame command
+  pub give-up : (given : Replica) (frame command : List ℕ)
+      → StepAnswers givingUp given (giveUpOutcome given (length frame) (length command)) frame command
+  pub arrive : (given : Replica) (bytes frame command : List ℕ)
+      → StepAnswers arriving given (arriveOutcome given bytes (length frame) (length command)) frame command
+  -- crate law, on settings
+  pub check : (s : Law.Settings) → CheckAnswers s
+  pub update : (s : Law.Settings) (x : List ℤ) (y : Readings) → UpdateAnswers s x y
+  pub command : (s : Law.Settings) (x : List ℤ) → CommandAnswers s (commanded s x)
+  -- crate law, on tables
+  pub tables-check : (n m p : ℕ) (a l c k low high : List ℤ) → CheckAnswers (settingsOf n m p a l c k low high)
+  pub tables-update : (n m p : ℕ) (a l c k low high x : List ℤ) (y : Readings) → UpdateAnswers (settingsOf n m p a l c k low high) x y
+  pub tables-command : (n m p : ℕ) (a l c k low high x : List ℤ)
+      → let s = settingsOf n m p a l c k low high in CommandAnswers s (commanded s x)
+  pub tables-issue : (n m p : ℕ) (a l c k low high x : List ℤ) (y : Readings)
+      → let s = settingsOf n m p a l c k low high in CommandAnswers s (issued s x y)
+  -- crate frame
+  pub read : (n m : ℕ) (bytes : List ℕ) → ReadAnswers n m bytes
+  pub write : (n m : ℕ) (f : Frame) (area : List ℕ) → WriteAnswers writing (writeRefusal n m f area) (written n m f area) area
+  pub write-command : (p period : ℕ) (values : List ℤ) (area : List ℕ)
+      → WriteAnswers writingCommand (commandRefusal p area) (commandWritten p period values area) area
+  pub read-command : (p : ℕ) (bytes : List ℕ) → ReadCommandAnswers p bytes
+  -- crate winder
+  pub winder-update : (n m p : ℕ) (a l c k low high : List ℤ) (present : List ℕ) (values state : List ℤ)
+      → UpdateAreaAnswers (settingsOf n m p a l c k low high) present values state
+  pub winder-command : (n m p : ℕ) (a l c k low high state commands : List ℤ)
+      → CommandAreaAnswers (settingsOf n m p a l c k low high) state commands
+  pub winder-read-frame : (n m : ℕ) (bytes : List ℕ) (areas : FrameAreas) → ReadAreaAnswers n m bytes areas
+  pub winder-read-command : (p : ℕ) (bytes : List ℕ) (areas : CommandAreas) → ReadCommandAreaAnswers p bytes areas
+  pub winder-write-frame : (n m : ℕ) (kindAndSender counters : List ℕ) (state : List ℤ) (present : List ℕ) (values : List ℤ) (areas : WriteAreas)
+      → WriteAreaAnswers n m (frameOf kindAndSender counters state present values) areas

@@ -1,0 +1,54 @@
+-- What holds what it held after a call that was ignored or refused, and what such a call gives.
+use Prim.Native.Nat.{ℕ}
+use mathlib.Core.Path.{_≡_}
+use mathlib.Core.List.{List}
+use lib.IntN.{ℤ}
+use Rattle.readings.specs.declared.Readings.{Readings}
+use Rattle.scram.specs.Answers.{Refused}
+use Rattle.frame.specs.declared.Written.{Written}
+use Rattle.replica.specs.declared.Replica.{Replica}
+use Rattle.replica.specs.declared.Stepped.{Stepped}
+use Rattle.replica.specs.Calls.{tickOutcome, giveUpOutcome, arriveOutcome}
+
+-- ---- the replica's calls
+
+-- a step left the replica `given` and both areas, to the last byte, as they were: "no frame and no command", so each length written is 0
+pub record StepKept (given : Replica) (r : Stepped) (frame frame′ command command′ : List ℕ) : Type 0 where
+  pub replica : r .replica ≡ given
+  pub frame-area : frame′ ≡ frame
+  pub command-area : command′ ≡ command
+  pub no-frame : r .frame ≡ 0
+  pub no-command : r .command ≡ 0
+
+-- "Making settings refuses without a replica": what stands in the place of one is refused by 1 in every step, whatever the event and the areas
+pub record NoReplica (r : Replica) : Type 0 where
+  pub tick : (y : Readings) (frame command : ℕ) → tickOutcome r y frame command .answer ≡ Refused 1
+  pub give-up : (frame command : ℕ) → giveUpOutcome r frame command .answer ≡ Refused 1
+  pub arrive : (bytes : List ℕ) (frame command : ℕ) → arriveOutcome r bytes frame command .answer ≡ Refused 1
+
+-- ---- calls that write to one area
+
+-- a write of a frame or a command left its area as it was, and gives the length 0
+pub record WriteKept (r : Written) (area area′ : List ℕ) : Type 0 where
+  pub lent-area : area′ ≡ area
+  pub no-bytes : r .length ≡ 0
+
+-- ---- a C caller's areas
+
+-- the five areas that a frame is read to
+pub record FrameAreas : Type 0 where
+  pub kindAndSender : List ℕ
+  pub counters : List ℕ
+  pub state : List ℤ
+  pub present : List ℕ
+  pub values : List ℤ
+
+-- the two areas that a command is read to
+pub record CommandAreas : Type 0 where
+  pub period : ℕ
+  pub commands : List ℤ
+
+-- the area that a frame is written to, and the caller's number for its length
+pub record WriteAreas : Type 0 where
+  pub area : List ℕ
+  pub length : ℕ

@@ -1,0 +1,2 @@
+-- The three histories compute.
+pub mod Histories

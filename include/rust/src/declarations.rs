@@ -1,0 +1,67 @@
+//! The functions of `include/winder.h`, in its order. A slice goes as its address and its length.
+
+extern "C" {
+    pub fn winder_version() -> u32;
+
+    pub fn winder_update(
+        n: usize,
+        m: usize,
+        p: usize,
+        a: &[i32; 36],
+        l: &[i32; 24],
+        c: &[i32; 24],
+        k: &[i32; 24],
+        low: &[i32; 4],
+        high: &[i32; 4],
+        present: &[u8; 4],
+        values: &[i32; 4],
+        state: &mut [i32; 6],
+    ) -> u32;
+
+    pub fn winder_command(
+        n: usize,
+        m: usize,
+        p: usize,
+        a: &[i32; 36],
+        l: &[i32; 24],
+        c: &[i32; 24],
+        k: &[i32; 24],
+        low: &[i32; 4],
+        high: &[i32; 4],
+        state: &[i32; 6],
+        commands: &mut [i32; 4],
+    ) -> u32;
+
+    pub fn winder_read_frame(
+        n: usize,
+        m: usize,
+        bytes: *const u8,
+        bytes_length: usize,
+        kind_and_sender: &mut [u8; 2],
+        counters: &mut [u32; 4],
+        state: &mut [i32; 6],
+        present: &mut [u8; 4],
+        values: &mut [i32; 4],
+    ) -> u32;
+
+    pub fn winder_write_frame(
+        n: usize,
+        m: usize,
+        kind_and_sender: &[u8; 2],
+        counters: &[u32; 4],
+        state: &[i32; 6],
+        present: &[u8; 4],
+        values: &[i32; 4],
+        area: *mut u8,
+        area_length: usize,
+        length: &mut usize,
+    ) -> u32;
+
+    pub fn winder_read_command(
+        p: usize,
+        bytes: *const u8,
+        bytes_length: usize,
+        period: &mut u32,
+        commands: &mut [i32; 4],
+    ) -> u32;
+}

@@ -1,0 +1,142 @@
+//! The calls of `include/winder.h`, which says what each of them does, over the archive that `rt staticlib winder` makes.
+//!
+//! Every function here is safe. What the header asks of a caller in C the types give: no reference is null, each area has its length, and an
+//! area that a call writes overlaps no other area of that call.
+
+mod declarations;
+
+use declarations::{
+    winder_command, winder_read_command, winder_read_frame, winder_update, winder_version,
+    winder_write_frame,
+};
+
+/// The version of these declarations: major version times 100, and minor version.
+pub const VERSION: u32 = 100;
+
+/// The version of the archive.
+#[inline]
+pub fn version() -> u32 {
+    unsafe { winder_version() }
+}
+
+/// Sizes, tables in units of 1/65536, and limits. A(i,j) is `a[i * 6 + j]`, L(i,j) is `l[i * 4 + j]`, C(j,i) is `c[j * 6 + i]` and K(j,i)
+/// is `k[j * 6 + i]`.
+#[derive(Clone, Debug, PartialEq, Eq)]
+pub struct Settings {
+    pub n: usize,
+    pub m: usize,
+    pub p: usize,
+    pub a: [i32; 36],
+    pub l: [i32; 24],
+    pub c: [i32; 24],
+    pub k: [i32; 24],
+    pub low: [i32; 4],
+    pub high: [i32; 4],
+}
+
+/// The state after one period with these readings. Gives 0 or a refusal's number.
+#[inline]
+pub fn update(
+    settings: &Settings,
+    present: &[u8; 4],
+    values: &[i32; 4],
+    state: &mut [i32; 6],
+) -> u32 {
+    let Settings {
+        n,
+        m,
+        p,
+        a,
+        l,
+        c,
+        k,
+        low,
+        high,
+    } = settings;
+    unsafe { winder_update(*n, *m, *p, a, l, c, k, low, high, present, values, state) }
+}
+
+/// The commands of a state. Gives 0 or a refusal's number.
+#[inline]
+pub fn command(settings: &Settings, state: &[i32; 6], commands: &mut [i32; 4]) -> u32 {
+    let Settings {
+        n,
+        m,
+        p,
+        a,
+        l,
+        c,
+        k,
+        low,
+        high,
+    } = settings;
+    unsafe { winder_command(*n, *m, *p, a, l, c, k, low, high, state, commands) }
+}
+
+/// What a frame says.
+#[derive(Clone, Copy, Debug, PartialEq, Eq)]
+pub struct Frame {
+    pub kind_and_sender: [u8; 2],
+    /// Period, view, base view and base period.
+    pub counters: [u32; 4],
+    pub state: [i32; 6],
+    pub present: [u8; 4],
+    pub values: [i32; 4],
+}
+
+/// Reads a frame of n states and m readings. Gives 0 or a refusal's number.
+#[inline]
+pub fn read_frame(n: usize, m: usize, bytes: &[u8], frame: &mut Frame) -> u32 {
+    let Frame {
+        kind_and_sender,
+        counters,
+        state,
+        present,
+        values,
+    } = frame;
+    unsafe {
+        winder_read_frame(
+            n,
+            m,
+            bytes.as_ptr(),
+            bytes.len(),
+            kind_and_sender,
+            counters,
+            state,
+            present,
+            values,
+        )
+    }
+}
+
+/// Writes a frame of n states and m readings to the start of an area. Gives 0 or a refusal's number.
+#[inline]
+pub fn write_frame(n: usize, m: usize, frame: &Frame, area: &mut [u8], length: &mut usize) -> u32 {
+    let Frame {
+        kind_and_sender,
+        counters,
+        state,
+        present,
+        values,
+    } = frame;
+    unsafe {
+        winder_write_frame(
+            n,
+            m,
+            kind_and_sender,
+            counters,
+            state,
+            present,
+            values,
+            area.as_mut_ptr(),
+            area.len(),
+            length,
+        )
+    }
+}
+
+/// Reads a command of p values. Gives 0 or a refusal's number.
+#[inline]
+pub fn read_command(p: usize, bytes: &[u8], period: &mut u32, commands: &mut [i32; 4]) -> u32 {
+    unsafe { winder_read_command(p, bytes.as_ptr(), bytes.len(), period, commands) }
+}

@@ -1,0 +1,62 @@
+//! The first implementation, with the second's settings and with sizes apart
+//! from them.
+
+use second::law::Settings;
+
+use crate::areas::{Fields, Sizes};
+
+/// The sizes in the settings are not looked at.
+pub fn sized(sizes: Sizes, settings: &Settings) -> winder::Settings {
+    winder::Settings {
+        n: sizes.n,
+        m: sizes.m,
+        p: sizes.p,
+        a: flat(&settings.a),
+        l: flat(&settings.l),
+        c: flat(&settings.c),
+        k: flat(&settings.k),
+        low: settings.lower,
+        high: settings.upper,
+    }
+}
+
+/// Row after row.
+fn flat<const PLACES: usize, const WIDTH: usize>(rows: &[[i32; WIDTH]]) -> [i32; PLACES] {
+    let places = rows.as_flattened().try_into();
+    places.expect("as many places as the rows have")
+}
+
+pub fn update(
+    sizes: Sizes,
+    settings: &Settings,
+    present: &[u8; 4],
+    values: &[i32; 4],
+    state: &mut [i32; 6],
+) -> u32 {
+    winder::update(&sized(sizes, settings), present, values, state)
+}
+
+pub fn command(
+    sizes: Sizes,
+    settings: &Settings,
+    state: &[i32; 6],
+    commands: &mut [i32; 4],
+) -> u32 {
+    winder::command(&sized(sizes, settings), state, commands)
+}
+
+pub fn read(sizes: Sizes, bytes: &[u8], fields: &mut Fields) -> u32 {
+    winder::read_frame(sizes.n, sizes.m, bytes, fields)
+}
+
+pub fn write(sizes: Sizes, fields: &Fields, area: &mut [u8], length: &mut usize) -> u32 {
+    winder::write_frame(sizes.n, sizes.m, fields, area, length)
+}
+
+#[cfg(test)]
+mod tests {
+    #[test]
+    fn the_archive_has_the_version_of_the_declarations() {
+        assert_eq!(winder::version(), winder::VERSION);
+    }
+}

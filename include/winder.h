@@ -1,6 +1,6 @@
 /*
- * The controller law of a winder in fixed point, the frames that its boxes send each other, and their commands: crate winder as a static
- * library.
+ * The controller law of a winder in fixed point, the conversion of readings for it, the frames that its boxes send each other, and their
+ * commands: crate winder as a static library.
  *
  * Sizes. A controller has n states (1 to 6), m readings and p commands (each 1 to 4). Every area is as long as its prototype says,
  * whatever n, m and p are; places beyond n, m and p are not looked at.
@@ -8,10 +8,11 @@
  * Tables. Coefficients are whole numbers in units of 1/65536, from -16,777,216 to 16,777,216. Rows and columns are counted from 0:
  * A(i,j) is a[i * 6 + j], L(i,j) is l[i * 4 + j], C(j,i) is c[j * 6 + i] and K(j,i) is k[j * 6 + i].
  *
- * A row of readings. present[j] is 0 where reading j is absent, and anything else where it is present; values[j] is its value.
+ * A row of readings. present[j] is 0 where reading j is absent, and anything else where it is present; values[j] is its value. A count
+ * goes there as it is; winder_convert_single makes mark and value of a single in newtons.
  *
- * Results. Each call but winder_version returns 0, or the number of a refusal (enum winder_refusal); the lowest number comes first.
- * Refused, every area holds what it held.
+ * Results. Each call but winder_version and winder_convert_single returns 0, or the number of a refusal (enum winder_refusal); the lowest
+ * number comes first. Refused, every area holds what it held.
  *
  * Asked of the caller: no pointer is null, not even one with the length 0; and an area that a call writes overlaps no other area of
  * that call. Nothing else is asked: any numbers may stand in the areas. The functions keep nothing between calls, and of the C library
@@ -27,8 +28,8 @@
  * The version: major version times 100, and minor version. A further call makes a new minor version; a call that is gone or means
  * something else makes a new major one. winder_version says for which version the archive was made.
  */
-#define WINDER_VERSION 100
-#define WINDER_VERSION_TEXT "1.0"
+#define WINDER_VERSION 101
+#define WINDER_VERSION_TEXT "1.1"
 
 /* The most states, readings and commands; the least of each is 1. */
 #define WINDER_STATES_MAX 6
@@ -77,6 +78,20 @@ extern "C" {
 
 /* The version of the archive: WINDER_VERSION of the header that it was made with. */
 uint32_t winder_version(void);
+
+/*
+ * Converts a reading that is an IEEE 754 single in newtons. bits is the single's 32 bits as a number: 0x3fc00000 is 1.5.
+ *
+ * The value is the single times 65536, exactly, rounded toward minus infinity: 1.5 gives 98304, -0.0 gives 0, and a negative single
+ * closer to zero than 1/65536 gives -1. A NaN, an infinity or a value outside the int32_t range counts as missing: -32768.0 gives
+ * -2147483648, 32768.0 is missing.
+ *
+ * Returns the present mark, 1 or 0. *value: out, the value, and 0 where the reading is missing. So a row is filled by
+ * present[j] = winder_convert_single(bits, &values[j]).
+ *
+ * Refuses nothing.
+ */
+uint8_t winder_convert_single(uint32_t bits, int32_t *value);
 
 /*
  * Update: the state after one period with these readings.

@@ -2,7 +2,9 @@
 
 #include <math.h>
 
-#define NEWTON 100     /* the cell's units in one newton */
+#include "single.h"
+
+#define HUNDREDTHS 100 /* of a newton: what samples are counted in */
 #define NOISE 1000     /* most that one sample is off, either way: 10 N */
 #define SEED 20261115u
 #define SHARE 16       /* one sample moves the low-pass by this part: a time constant of 8 ms, 20 Hz */
@@ -25,11 +27,16 @@ void cell_sample(struct Cell *cell, double tension)
 {
     cell->noise = next_noise(cell->noise);
     int64_t off = (int64_t)(cell->noise % (2 * NOISE + 1)) - NOISE;
-    int64_t sample = (int64_t)lround(tension * NEWTON) + off;
+    int64_t sample = (int64_t)lround(tension * HUNDREDTHS) + off;
     cell->filtered += (sample * SCALE - cell->filtered) / SHARE;
 }
 
-double cell_reading(const struct Cell *cell)
+static float filtered_newtons(const struct Cell *cell)
 {
-    return (double)(cell->filtered / SCALE) / NEWTON;
+    return (float)((double)cell->filtered / (SCALE * HUNDREDTHS));
+}
+
+uint32_t cell_sends(const struct Cell *cell, bool reads)
+{
+    return bits_of(reads ? filtered_newtons(cell) : NAN);
 }

@@ -6,10 +6,9 @@
 #include "line.h"
 #include "plant.h"
 
-#define NEWTON 100.0                /* units of tension, setpoint, drag and command in one newton */
-#define METRE_PER_SECOND 1000000.0  /* units of lead in one metre per second */
+#define MILLIMETRES 1000.0 /* in one metre */
 
-enum { STATES = 4, READINGS = 2, COMMANDS = 1 };
+enum { STATES = 4, COMMANDS = 1 };
 
 /*
  * The state. Lead is how much faster the roll's surface runs than the line. Drag is the force at the surface that holds the roll back:
@@ -17,24 +16,21 @@ enum { STATES = 4, READINGS = 2, COMMANDS = 1 };
  */
 enum { TENSION, LEAD, DRAG, SETPOINT };
 
-/* The readings. The setpoint comes in as a reading too: the law has no other way in. */
-enum { TENSION_READ, SETPOINT_READ };
-
 /* The roll's inertia as a mass at its surface: from 178 kg it falls to 112 kg and rises to 163 kg, and one number must do for all. */
 #define DESIGN_MASS 120.0
 
-/* Force for each unit of lead too much, in units of the command: 4,800 newtons for a metre per second, a damping of 0.6. */
-#define DAMPING 0.48
+/* Newtons for each millimetre per second of lead too much: a damping of 0.6. */
+#define DAMPING 4.8
 
 #define LOWEST_COMMAND 0
-#define HIGHEST_COMMAND 60000 /* 600 N */
+#define HIGHEST_COMMAND (600 * NEWTON)
 
 /* What one period adds: tension by lead, lead by force, and the share of the tension that the roll carries away. */
-#define TENSION_BY_LEAD (WEB_STIFFNESS / SPAN * PERIOD * NEWTON / METRE_PER_SECOND)
-#define LEAD_BY_FORCE (PERIOD / DESIGN_MASS * METRE_PER_SECOND / NEWTON)
+#define TENSION_BY_LEAD (WEB_STIFFNESS / SPAN * PERIOD / MILLIMETRES)
+#define LEAD_BY_FORCE (PERIOD / DESIGN_MASS * MILLIMETRES)
 #define CARRIED_AWAY (LINE_SPEED / SPAN * PERIOD)
 
-/* Lead that a steady tension has, for each unit of it: the web on the roll is longer than it came out of the nip. */
+/* Lead that a steady tension has, for each newton of it: the web on the roll is longer than it came out of the nip. */
 #define LEAD_OF_TENSION (CARRIED_AWAY / TENSION_BY_LEAD)
 
 /* Span and roll over one period with no command. The new lead comes first and makes the new tension. */
@@ -45,7 +41,7 @@ static const double model[STATES][STATES] = {
     [SETPOINT] = {0.0, 0.0, 0.0, 1.0},
 };
 
-/* What one unit of command adds. */
+/* What one newton of command adds. */
 static const double effect[STATES] = {TENSION_BY_LEAD * LEAD_BY_FORCE, LEAD_BY_FORCE, 0.0, 0.0};
 
 /* The command is the setpoint plus the drag, less the damping of the lead beyond what the setpoint's own lead is. */
@@ -54,7 +50,7 @@ static const double feedback[STATES] = {0.0, -DAMPING, 1.0, 1.0 + DAMPING * LEAD
 /* How far a reading moves the estimate, by state and reading. The estimate's error then shrinks by about 0.7, 0.7 and 0.9 a period. */
 static const double correction[STATES][READINGS] = {
     [TENSION] = {0.55, 0.0},
-    [LEAD] = {0.22, 0.0},
+    [LEAD] = {0.022, 0.0},
     [DRAG] = {-0.08, 0.0},
     [SETPOINT] = {0.0, 1.0},
 };
@@ -92,19 +88,17 @@ struct Controller controller_at_start(void)
     return (struct Controller){.law = settings()};
 }
 
-uint32_t controller_step(struct Controller *controller, bool is_read, double tension, double setpoint, double *command)
+uint32_t controller_step(struct Controller *controller, const struct Readings *readings, int32_t *command)
 {
-    uint8_t present[4] = {[TENSION_READ] = is_read, [SETPOINT_READ] = true};
-    int32_t values[4] = {[TENSION_READ] = (int32_t)lround(tension * NEWTON), [SETPOINT_READ] = (int32_t)lround(setpoint * NEWTON)};
-    int32_t commands[4];
+    int32_t commands[WINDER_COMMANDS_MAX];
 
-    uint32_t refusal = winder_update_with(&controller->law, present, values, controller->state);
+    uint32_t refusal = winder_update_with(&controller->law, readings->present, readings->values, controller->state);
     if (refusal != 0) {
         return refusal;
     }
     refusal = winder_command_with(&controller->law, controller->state, commands);
     if (refusal == 0) {
-        *command = commands[0] / NEWTON;
+        *command = commands[0];
     }
     return refusal;
 }

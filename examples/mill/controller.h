@@ -1,30 +1,31 @@
 /*
  * The tension controller: tables for the law of winder.h, and one period of it.
  *
- * The law knows whole numbers alone. Here a tension or a force is counted in hundredths of a newton and a speed in micrometres per
- * second; then the gains are near 1, and a rounding is far below what a load cell tells.
+ * The law knows whole numbers alone. Here a force counts in 1/65536 of a newton, as a converted single does, and the lead in 1/65536 of a
+ * millimetre per second; then a gain is what it is in newtons and millimetres per second, and a rounding is far below what a load cell
+ * tells.
  */
 #ifndef CONTROLLER_H
 #define CONTROLLER_H
 
-#include <stdbool.h>
 #include <stdint.h>
 
+#include "readings.h"
 #include "winder.h"
 
 #define PERIOD 0.01 /* s */
 
 struct Controller {
     struct winder_settings law;
-    int32_t state[6];
+    int32_t state[WINDER_STATES_MAX];
 };
 
 struct Controller controller_at_start(void);
 
 /*
- * One period: the readings in, the command for the next period out, both in newtons. The tension is absent where it is not read. The
- * result is 0, or the number by which the law refused; then the command is as it was.
+ * One period: the readings in, the command for the next period out. The result is 0, or the number by which the law refused; then the
+ * command is as it was.
  */
-uint32_t controller_step(struct Controller *controller, bool is_read, double tension, double setpoint, double *command);
+uint32_t controller_step(struct Controller *controller, const struct Readings *readings, int32_t *command);
 
 #endif

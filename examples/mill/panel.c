@@ -105,18 +105,29 @@ static void take_row(const struct Panel *panel, struct Pixel *pixel, const struc
     }
 }
 
-void panel_curve(const struct Panel *panel, const struct Record *record, Column x, Column y, const char *class)
+static bool is_drawn(const struct Panel *panel, const struct Row *row, Column x, Column y)
+{
+    return panel->x_low <= x(row) && x(row) <= panel->x_high && !isnan(y(row));
+}
+
+/* A part of the curve without a gap: from row i, which is drawn, to the last drawn one. The result is the row after it. */
+static size_t write_part(const struct Panel *panel, const struct Record *record, size_t i, Column x, Column y)
 {
     struct Pixel pixel = {NULL, NULL};
-    printf("<path class=\"%s\" clip-path=\"url(#panel%d)\" d=\"M", class, panel->number);
-    for (size_t i = 0; i < record->count; i++) {
-        const struct Row *row = &record->rows[i];
-        if (panel->x_low <= x(row) && x(row) <= panel->x_high) {
-            take_row(panel, &pixel, row, x, y);
-        }
+    printf("M");
+    for (; i < record->count && is_drawn(panel, &record->rows[i], x, y); i++) {
+        take_row(panel, &pixel, &record->rows[i], x, y);
     }
-    if (pixel.low != NULL) {
-        write_pixel(panel, &pixel, x, y);
+    write_pixel(panel, &pixel, x, y);
+    return i;
+}
+
+void panel_curve(const struct Panel *panel, const struct Record *record, Column x, Column y, const char *class)
+{
+    size_t i = 0;
+    printf("<path class=\"%s\" clip-path=\"url(#panel%d)\" d=\"", class, panel->number);
+    while (i < record->count) {
+        i = is_drawn(panel, &record->rows[i], x, y) ? write_part(panel, record, i, x, y) : i + 1;
     }
     printf("\"/>\n");
 }

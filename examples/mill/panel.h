@@ -26,7 +26,10 @@ void panel_mark(const struct Panel *panel, double x, const char *label);
 /* A stretch of the x axis, shaded. */
 void panel_shade(const struct Panel *panel, double from, double to);
 
-/* A curve through the rows. Where many rows share a pixel, their lowest and highest are kept, so that no peak is lost. */
+/*
+ * A curve through the rows, with a gap where y is a NaN. Where many rows share a pixel, their lowest and highest are kept, so that no peak
+ * is lost.
+ */
 void panel_curve(const struct Panel *panel, const struct Record *record, Column x, Column y, const char *class);
 
 #endif

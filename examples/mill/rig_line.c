@@ -12,9 +12,8 @@ static void write_table_of(const int32_t *table, size_t rows, size_t columns, si
     }
 }
 
-void write_rig_line(int boxes, const struct Controller *controller)
+void write_rig_line(int boxes, const struct winder_settings *law, const int32_t state[WINDER_STATES_MAX])
 {
-    const struct winder_settings *law = &controller->law;
     printf("rig %d %zu %zu %zu", boxes, law->n, law->m, law->p);
     write_table_of(law->a, law->n, law->n, WINDER_STATES_MAX);
     write_table_of(law->l, law->n, law->m, WINDER_READINGS_MAX);
@@ -22,6 +21,6 @@ void write_rig_line(int boxes, const struct Controller *controller)
     write_table_of(law->k, law->p, law->n, WINDER_STATES_MAX);
     write_table_of(law->low, 1, law->p, WINDER_COMMANDS_MAX);
     write_table_of(law->high, 1, law->p, WINDER_COMMANDS_MAX);
-    write_table_of(controller->state, 1, law->n, WINDER_STATES_MAX);
+    write_table_of(state, 1, law->n, WINDER_STATES_MAX);
     printf("\n");
 }

@@ -2,9 +2,11 @@
 #ifndef RIG_LINE_H
 #define RIG_LINE_H
 
-#include "controller.h"
+#include <stdint.h>
 
-/* Writes `rig N n m p`, the numbers of A, L, C and K row by row, the lower limits, the upper limits and the start. */
-void write_rig_line(int boxes, const struct Controller *controller);
+#include "winder.h"
+
+/* Writes `rig N n m p`, the numbers of A, L, C and K row by row, the lower limits, the upper limits and the starting state. */
+void write_rig_line(int boxes, const struct winder_settings *law, const int32_t state[WINDER_STATES_MAX]);
 
 #endif

@@ -1,10 +1,15 @@
 #include "simulation.h"
 
+#include <math.h>
+#include <string.h>
+
 #include "cell.h"
 #include "controller.h"
 #include "drive.h"
 #include "line.h"
 #include "plant.h"
+#include "readings.h"
+#include "single.h"
 
 /* The plant moves on in steps much shorter than a period. */
 #define STEPS 20
@@ -18,10 +23,21 @@ struct Winder {
     double command; /* in force now */
 };
 
+/* The load cell's transmitter sends singles; the desk that sets the tension sends counts. */
+static struct Sent sent_by(const struct Winder *winder)
+{
+    double radius = winder->plant.radius;
+    return (struct Sent){
+        .tension = cell_sends(&winder->cell, line_tension_is_read(wound_length(radius))),
+        .setpoint = (int32_t)lround(line_setpoint(radius) * NEWTON),
+    };
+}
+
 static struct Row read_winder(const struct Winder *winder, double now)
 {
     double radius = winder->plant.radius;
     double length = wound_length(radius);
+    struct Sent sent = sent_by(winder);
     return (struct Row){
         .time = now,
         .length = length,
@@ -29,9 +45,9 @@ static struct Row read_winder(const struct Winder *winder, double now)
         .speed = winder->line.speed,
         .setpoint = line_setpoint(radius),
         .tension = plant_tension(&winder->plant),
-        .reading = cell_reading(&winder->cell),
+        .reading = single_of(sent.tension),
         .splice = line_in_splice(length),
-        .present = line_tension_is_read(length),
+        .sent = sent,
     };
 }
 
@@ -51,10 +67,14 @@ static void move_on(struct Winder *winder, double now)
 static uint32_t one_period(struct Winder *winder, struct Row *row, double now)
 {
     *row = read_winder(winder, now);
-    uint32_t refusal = controller_step(&winder->controller, row->present, row->reading, row->setpoint, &row->command);
+    struct Readings readings = converted(row->sent);
+    row->present = readings.present[TENSION_READ];
+    memcpy(row->state, winder->controller.state, sizeof row->state);
+    uint32_t refusal = controller_step(&winder->controller, &readings, &row->command_count);
     if (refusal != 0) {
         return refusal;
     }
+    row->command = (double)row->command_count / NEWTON;
     move_on(winder, now);
     winder->command = row->command;
     return 0;

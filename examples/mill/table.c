@@ -2,16 +2,25 @@
 
 #include <stdio.h>
 
-static void write_row(const struct Row *row)
+/* Metres, seconds and newtons. */
+static void write_quantities(const struct Row *row)
 {
-    printf("%.2f,%.2f,%.5f,%.3f,%.2f,%.2f,%.2f,%d,%d,%.2f\n", row->time, row->length, row->radius, row->speed, row->setpoint,
-           row->tension, row->reading, row->splice, row->present, row->command);
+    printf("%.2f,%.2f,%.5f,%.3f,%.2f,%.2f,%.2f,%d,%d,%.2f", row->time, row->length, row->radius, row->speed, row->setpoint, row->tension,
+           row->reading, row->splice, row->present, row->command);
+}
+
+/* Readings and command as they are sent, to the last digit. */
+static void write_sent(const struct Row *row)
+{
+    printf(",%08lx,%ld,%ld\n", (unsigned long)row->sent.tension, (long)row->sent.setpoint, (long)row->command_count);
 }
 
 void write_table(const struct Record *record)
 {
-    printf("time_s,length_m,radius_m,speed_m_s,setpoint_n,tension_n,reading_n,splice,present,command_n\n");
+    printf("time_s,length_m,radius_m,speed_m_s,setpoint_n,tension_n,reading_n,splice,present,command_n,"
+           "reading_bits,setpoint_count,command_count\n");
     for (size_t i = 0; i < record->count; i++) {
-        write_row(&record->rows[i]);
+        write_quantities(&record->rows[i]);
+        write_sent(&record->rows[i]);
     }
 }

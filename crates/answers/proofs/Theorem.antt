@@ -1,4 +1,5 @@
 -- Demand 1 holds of every call. Assumes nothing.
+use Rattle.transmitters.specs.Conversion.{convertedRow}
 use Rattle.law.specs.Settings.{settingsOf}
 use Rattle.winder.specs.FrameAreas.{frameOf}
 use Rattle.answers.specs.Demand1.{DemandOne}
@@ -11,7 +12,7 @@ use Rattle.answers.proofs.Frames.{write-answers, write-area-answers, wr
 pub demand-1 : DemandOne
 demand-1 = record {
   make = make-answers;
-  tick = λ given y frame command. tick-call given frame command y;
+  tick = λ given y frame command. tick-call given frame command (convertedRow y);
   give-up = give-up-call;
   arrive = λ given bytes frame command. arrive-call given frame command bytes;
   check = check-answers;

@@ -1,13 +1,15 @@
 -- DEMAND 1: "Every call, with all inputs, answers: what was called for, an event ignored, or one of the numbered refusals. Ignored or refused, the
 -- replica and each lent area hold what they held." It is stated of every result that keeps the call's contract, in the contract's own words. No call
 -- has a `requires`, so each call with each input has such a result. A name with ′ is an area after the call; areas that are lent to be read alone are
--- not named, since nothing can write them.
+-- not named, since nothing can write them. A call that refuses nothing and ignores nothing, as winder_convert_single, has no answer to speak of.
 use Prim.Native.Nat.{ℕ}
 use mathlib.Core.Path.{_≡_}
 use mathlib.Core.List.{List}
 use lib.ListN.{length, replicate}
 use lib.IntN.{ℤ, pos}
 use Rattle.readings.specs.declared.Readings.{Readings}
+use Rattle.transmitters.specs.declared.Reading.{Reading}
+use Rattle.transmitters.specs.Conversion.{convertedRow}
 use Rattle.scram.specs.Answers.{Answered, answered}
 use Rattle.law.specs.declared.Settings as Law
 use Rattle.law.specs.declared.Answer.{Answer as LawAnswer}
@@ -133,8 +135,8 @@ WriteAreaAnswers n m f areas =
 pub record DemandOne : Type 0 where
   -- crate replica
   pub make : (s : Settings) → MakeAnswers s
-  pub tick : (given : Replica) (y : Readings) (frame command : List ℕ)
-      → StepAnswers ticking given (tickOutcome given y (length frame) (length command)) frame command
+  pub tick : (given : Replica) (y : List Reading) (frame command : List ℕ)
+      → StepAnswers ticking given (tickOutcome given (convertedRow y) (length frame) (length command)) frame command
   pub give-up : (given : Replica) (frame command : List ℕ)
       → StepAnswers givingUp given (giveUpOutcome given (length frame) (length command)) frame command
   pub arrive : (given : Replica) (bytes frame command : List ℕ)

@@ -1,16 +1,19 @@
--- The three histories compute, and demand 3 speaks of them. Assumes nothing.
+-- The four histories compute, and demand 3 speaks of them. Assumes nothing.
 use Prim.Native.Nat.{ℕ, _≤_}
 use mathlib.Core.Path.{_≡_, refl, sym, ap, _∙_, subst}
 use mathlib.Core.Logic.{_⊎_, inl, inr}
 use mathlib.Core.List.{List, [], _∷_, map}
 use native.Mathlib.Omega.{arith}
 use lib.Dec.{lit<, lit≤}
+use lib.Ieee.{isNan, toBits}
 use Rattle.lists.specs.Choice.{pick}
 use Rattle.lists.specs.Below.{allBelow}
 use Rattle.lists.specs.Places.{filled}
 use Rattle.lists.specs.Refusals.{firstOf}
 use Rattle.bytes.specs.Words.{littleEndian, spelled, numberAt, twosComplement, fromTwosComplement, valuesBytes, valueAt}
 use Rattle.readings.specs.Readings.{normalised, anyMark, markBeyond}
+use Rattle.transmitters.specs.Single.{exponent, magnitude, scale, floor, inUnits}
+use Rattle.transmitters.specs.Conversion.{withinI32, convertedSingle, convertedNewtons, converted, convertedRow}
 use Rattle.law.specs.Fixed.{divided, sum, limited, clamp}
 use Rattle.law.specs.Settings.{sizesInRange, inRange, tableInRange, coefficientsInRange, limitsInOrder, refusals, refusal}
 use Rattle.law.specs.Law as Law
@@ -37,7 +40,7 @@ use Rattle.group.proofs.Theorem.{demand-3}
 use Rattle.setup.specs.Bench.{benchLaw}
 use Rattle.cases.specs.Histories.{first-i32, Line, linesFrom, linesOf, commandsOf, Witness}
 use Rattle.cases.specs.Histories.{benchEntries, benchLines, benchCommands, openEntries, openLines, openCommands}
-use Rattle.cases.specs.Histories.{decidedEntries, decidedLines, decidedCommands}
+use Rattle.cases.specs.Histories.{decidedEntries, decidedLines, decidedCommands, singleEntries, singleLines, singleCommands}
 
 -- ---- the lines and the commands, computed
 
@@ -50,7 +53,7 @@ abbrev Computes : List (Entry Handed Areas) → List Line → List (List ℕ) �
 Computes h lines commands = (linesOf h ≡ lines) × (commandsOf h ≡ commands)
 
 computed : Computes benchEntries benchLines benchCommands × Computes openEntries openLines openCommands
-    × Computes decidedEntries decidedLines decidedCommands
+    × Computes decidedEntries decidedLines decidedCommands × Computes singleEntries singleLines singleCommands
 unfolding linesFrom after steps step checked stepRefusal tickOutcome giveUpOutcome arriveOutcome
     raise afterTick tick giveUp hearAck hearEstimate receive arrive arrival better badSender badPlace badBase unwanted
     majority coordinator beats count
@@ -60,7 +63,8 @@ unfolding linesFrom after steps step checked stepRefusal tickOutcome giveUpOutco
     partsOf anyOf stateIn readingsIn readingsOk estimateAt estimateOk marksByte marksIn marksBelow absentZero
     frameBytes header pairs estimateBytes stateBytes readingsBytes commandBytes
     littleEndian spelled numberAt twosComplement fromTwosComplement valuesBytes valueAt
-computed = ((refl, refl), (refl, refl), (refl, refl))
+    convertedRow converted convertedNewtons convertedSingle withinI32 inUnits floor scale magnitude exponent isNan toBits
+computed = ((refl, refl), (refl, refl), (refl, refl), (refl, refl))
 
 -- ---- the last decided period
 
@@ -105,7 +109,7 @@ none-later : (k : ℕ) (l : List (List ℕ)) → NoneLater k l → (b : List ℕ
 none-later k (c ∷ l) h b (inl q) = subst (λ b. commandPeriod b ≤ k) (sym q) (h .0)
 none-later k (c ∷ l) h b (inr p) = none-later k l (h .1) b p
 
--- ---- the three histories
+-- ---- the four histories
 
 -- the newest command is of the last period
 witness : (h : List (Entry Handed Areas)) (lines : List Line) (newest : List ℕ) (others : List (List ℕ)) (k : ℕ) → Computes h lines (newest ∷ others)
@@ -132,3 +136,7 @@ open-taken-over = witness openEntries openLines _ _ 2 (computed .1) refl (lit≤
 pub decision-kept : Witness decidedEntries decidedLines decidedCommands 2
 unfolding commandPeriod numberAt spelled
 decision-kept = witness decidedEntries decidedLines _ _ 2 (computed .2) refl (lit≤ tt, (lit≤ tt, tt))
+
+pub singles-converted : Witness singleEntries singleLines singleCommands 2
+unfolding commandPeriod numberAt spelled
+singles-converted = witness singleEntries singleLines _ _ 2 (computed .3) refl (lit≤ tt, (lit≤ tt, tt))

@@ -1,2 +1,2 @@
--- The three histories compute.
+-- The four histories compute.
 pub mod Histories

@@ -1,16 +1,20 @@
--- Three histories of document 01 over the bench's law, on bytes: its example of the bench, and two take-overs. The line of each entry is
--- written out, and so are the commands that demand 3 speaks of: nobody need wonder whether its premises can be met.
+-- Four histories of document 01 over the bench's law, on bytes: its example of the bench, two take-overs, and readings that come as singles. The
+-- line of each entry is written out, and so are the commands that demand 3 speaks of: nobody need wonder whether its premises can be met.
 use Prim.Native.Nat.{ℕ, zero, suc, _<_}
 use mathlib.Core.Path.{_≡_, refl}
-use mathlib.Core.Bool.{Bool, true, false}
+use mathlib.Core.Bool.{true, false}
 use mathlib.Core.List.{List, [], _∷_, map}
 use lib.Dec.{lit<}
-use lib.IntN.{ℤ, pos}
+use lib.IntN.{ℤ, pos, negsuc}
+use lib.Ieee.{Float, nan, inf, fin}
 use lib.ListN.{length, getD, replicate}
 use mir.Syntax.{w32}
 use mir.Val.{SFits}
 use Rattle.lists.specs.I32.{AllI32}
 use Rattle.lists.specs.Places.{entry}
+use Rattle.transmitters.specs.declared.Reading.{Reading}
+use Rattle.transmitters.specs.declared.Reading.the-variants.{Count, Newtons, Missing}
+use Rattle.transmitters.specs.Conversion.{CountI32, AllCountsI32}
 use Rattle.scram.specs.Answers.{Answered, Done, Ignored}
 use Rattle.scram.specs.Held.{Input, Tick, Arrival, GiveUp}
 use Rattle.scram.specs.History.{Entry, Issued, Situation, called, step, after}
@@ -33,14 +37,19 @@ pub first-i32 : (y others : ℕ) → y < 2147483648 → AllI32 (first (pos y) ot
 first-i32 y others h zero = record { sfits = h }
 first-i32 y others h (suc i) = zeros others i
 
--- readings with the mark and the value of the first place
-abbrev handed : Bool → (y : ℕ) → y < 2147483648 → Handed
-handed mark y h = record {
-  readings = record { present = mark ∷ replicate 3 false; values = first (pos y) 3 };
-  marks = refl;
-  values = refl;
-  i32 = first-i32 y 3 h;
-}
+-- missing readings have no count
+pub blanks : (n j : ℕ) → CountI32 (getD (replicate n Missing) j Missing)
+blanks zero j = tt
+blanks (suc n) zero = tt
+blanks (suc n) (suc j) = blanks n j
+
+-- a reading in the first place, and no other
+abbrev handed : (r : Reading) → CountI32 r → Handed
+handed r h = record { readings = r ∷ replicate 3 Missing; four = refl; i32 = counts }
+  where
+    counts : AllCountsI32 (r ∷ replicate 3 Missing)
+    counts zero = h
+    counts (suc j) = blanks 3 j
 
 -- areas of the least lengths that no step refuses
 abbrev areas : Areas
@@ -48,11 +57,15 @@ areas = record { frame = replicate longestFrame 0; command = replicate longestCo
 
 -- `T r y`
 abbrev T : ℕ → (y : ℕ) → y < 2147483648 → Entry Handed Areas
-T box y h = record { box = box; event = Tick (handed true y h); areas = areas }
+T box y h = record { box = box; event = Tick (handed (Count (pos y)) (record { sfits = h })); areas = areas }
 
 -- `T r -`: "`-` for absent"
 abbrev absent : ℕ → Entry Handed Areas
-absent box = record { box = box; event = Tick (handed false 0 (lit< tt)); areas = areas }
+absent box = record { box = box; event = Tick (handed Missing tt); areas = areas }
+
+-- `T r f` and the bits of a single: `fin s m e` is ± m × 2^e newtons
+abbrev N : ℕ → Float → Entry Handed Areas
+N box x = record { box = box; event = Tick (handed (Newtons x) tt); areas = areas }
 
 -- `G r`
 abbrev G : ℕ → Entry Handed Areas
@@ -246,3 +259,27 @@ decidedLines =
 -- 60 lies between 50, which box 1 decided, and box 3's 70
 abbrev pub decidedCommands : List (List ℕ)
 decidedCommands = command 2 60 ∷ command 1 50 ∷ []
+
+-- ---- readings that come as singles
+
+-- Box 1 is handed 25 × 2^-14 N, which is 100 units of 1/65536, and then −2^-17 N, half a unit below zero; box 2 a NaN and an infinity, which are
+-- missing. "In the run of demand 3 a reading means its converted value": 100, and −1.
+abbrev pub singleEntries : List (Entry Handed Areas)
+singleEntries = N 1 (fin false 25 (negsuc 13)) ∷ N 2 nan ∷ D 2 0 ∷ D 1 2 ∷ N 1 (fin true 1 (negsuc 16)) ∷ N 2 (inf false) ∷ D 2 4 ∷ D 1 6 ∷ []
+
+-- as with counts
+abbrev pub singleLines : List Line
+singleLines =
+    line 1 Done 1 0 0 1 0 37 []
+    ∷ line 2 Done 1 0 0 0 0 0 []
+    ∷ line 2 Done 1 0 0 1 0 20 []
+    ∷ line 1 Done 1 0 0 1 0 37 (command 1 50)
+    ∷ line 1 Done 2 0 0 2 50 37 []
+    ∷ line 2 Done 2 0 0 1 50 0 []
+    ∷ line 2 Done 2 0 0 2 50 20 []
+    ∷ line 1 Done 2 0 0 2 50 37 (command 2 24)
+    ∷ []
+
+-- 24, and not 25: −2^-17 N is rounded toward minus infinity
+abbrev pub singleCommands : List (List ℕ)
+singleCommands = command 2 24 ∷ command 1 50 ∷ []

@@ -12,7 +12,8 @@ use lib.ListN.{length}
 use lib.IntN.{ℤ}
 use Rattle.lists.specs.I32.{AllI32}
 use Rattle.readings.specs.declared.Readings.{Readings}
-use Rattle.readings.specs.Readings.{markBeyond}
+use Rattle.transmitters.specs.Conversion.{convertedRow}
+use Rattle.transmitters.proofs.Rows.{row-i32}
 use Rattle.scram.specs.Held.{Group, Message, Command, Input, Tick, Arrival, GiveUp}
 use Rattle.scram.specs.Events.{largest, arrival}
 use Rattle.scram.specs.History.{Result}
@@ -102,7 +103,9 @@ module _ (N : ℕ) (law : Law.Settings) where
       -- it keeps to the types
       keeps : (x : Input Handed (Message (List ℤ) Readings)) → Typed law (heldIn h) → Arrives (group N law) (Carried law) x → i < 256
           → Keeps law (stepOf h x)
-      keeps (Tick y) t w place = tick-keeps law refuses G i place (heldIn h) (markBeyond (law .m) (y .readings)) _ t (row-ok law (y .readings) (y .i32))
+      keeps (Tick y) t w place =
+          let row = convertedRow (y .readings) in
+          tick-keeps law refuses G i place (heldIn h) _ _ t (row-ok law row (row-i32 (y .readings) (y .i32)))
       keeps (Arrival m) t w place = arrive-keeps law refuses G i place (heldIn h) m t w
       keeps GiveUp t w place = giveUp-keeps law refuses G i place (heldIn h) t
 

@@ -1,5 +1,6 @@
 -- DEMAND 3 for the replica: for any group whose settings making accepts and any history of document 01, one run of a single controller
--- serves all decided periods, and each command written is its command, byte for byte.
+-- serves all decided periods, and each command written is its command, byte for byte. The rows of that run are those that boxes were handed, and
+-- "In the run of demand 3 a reading means its converted value." (`row` of `group`).
 use Prim.Native.Nat.{ℕ}
 use mathlib.Core.Path.{_≡_}
 use mathlib.Core.List.{List}

@@ -5,9 +5,10 @@ use mathlib.Core.List.{List}
 use mathlib.Core.Option.{some}
 use lib.ListN.{length}
 use lib.IntN.{ℤ}
-use Rattle.lists.specs.I32.{AllI32}
 use Rattle.readings.specs.declared.Readings.{Readings}
 use Rattle.readings.specs.Readings.{normalised, markBeyond}
+use Rattle.transmitters.specs.declared.Reading.{Reading}
+use Rattle.transmitters.specs.Conversion.{convertedRow, AllCountsI32}
 use Rattle.scram.specs.Held.{Input, Tick, Arrival, GiveUp}
 use Rattle.scram.specs.History.{Result, System}
 use Rattle.scram.specs.Shown.{isRefused}
@@ -19,12 +20,11 @@ use Rattle.replica.specs.Held.{heldIn, heldOf}
 use Rattle.replica.specs.Frames.{sentBytes, issuedBytes}
 use Rattle.replica.specs.Calls.{Outcomes, tickOutcome, giveUpOutcome, arriveOutcome, freshOf}
 
--- readings handed to a tick: any value of the type `Readings`, which has four marks and four i32 values
+-- what a tick is handed: any value of the type `[Reading; 4]`, which has four readings, with counts that are i32
 pub record Handed : Type 0 where
-  pub readings : Readings
-  pub marks : length (readings .present) ≡ 4
-  pub values : length (readings .values) ≡ 4
-  pub i32 : AllI32 (readings .values)
+  pub readings : List Reading
+  pub four : length readings ≡ 4
+  pub i32 : AllCountsI32 readings
 
 -- the areas lent to a step, of any length and content
 pub record Areas : Type 0 where
@@ -33,7 +33,7 @@ pub record Areas : Type 0 where
 
 -- what the call for an input does
 abbrev pub outcomeOf : Replica → Input Handed (List ℕ) → Areas → Outcomes
-outcomeOf r (Tick y) a = tickOutcome r (y .readings) (length (a .frame)) (length (a .command))
+outcomeOf r (Tick y) a = tickOutcome r (convertedRow (y .readings)) (length (a .frame)) (length (a .command))
 outcomeOf r (Arrival bytes) a = arriveOutcome r bytes (length (a .frame)) (length (a .command))
 outcomeOf r GiveUp a = giveUpOutcome r (length (a .frame)) (length (a .command))
 
@@ -51,7 +51,7 @@ module _ (N : ℕ) (law : Law.Settings) where
   abbrev pub settingsOf : ℕ → Settings
   settingsOf own = record { boxes = N; own = own; law = law }
 
-  -- N boxes under this law
+  -- N boxes under this law. "7 looks at them converted", and "In the run of demand 3 a reading means its converted value."
   abbrev pub group : System (List ℤ) Readings (List ℤ)
   group = record {
     Box = Replica;
@@ -60,8 +60,8 @@ module _ (N : ℕ) (law : Law.Settings) where
     fresh = λ i. freshOf (settingsOf i);
     call = λ r e a. resultOf (r .settings) (outcomeOf r e a);
     held = λ r. heldIn (r .held);
-    row = λ y. normalised (law .m) (y .readings);
-    beyond = λ y. markBeyond (law .m) (y .readings);
+    row = λ y. normalised (law .m) (convertedRow (y .readings));
+    beyond = λ y. markBeyond (law .m) (convertedRow (y .readings));
     frameBytes = λ m. sentBytes (law .n) (law .m) (some m);
     commandBytes = λ c. issuedBytes (law .p) (some c);
     commandPeriod = commandPeriod;

@@ -19,9 +19,12 @@ use Rattle.line.specs.declared.events.Event.{Event}
 use Rattle.line.specs.declared.events.Event.the-variants.{Bad}
 use Rattle.line.specs.declared.events.Called.{Called}
 use Rattle.text.specs.Numbers.{numberOf, counted, isWhole}
+use Rattle.transmitters.specs.declared.Reading.{Reading}
 use Rattle.line.specs.Fields.{oneMore, spaces, oneLess, afterSpaces, upToSpace, field}
-use Rattle.line.specs.Events.{letterOf, boxOf, isReading, allReadings, tickCalled, giveUpCalled, deliveryCalled, calledFor, called}
+use Rattle.line.specs.Singles.{isSingle, singleIn}
+use Rattle.line.specs.Events.{letterOf, boxOf, readingIn, isGiven, isReading, allReadings, tickCalled, giveUpCalled, deliveryCalled, calledFor, called}
 use Rattle.line.proofs.FieldLaws.{after-found}
+use Rattle.line.proofs.SingleLaws.{single-length}
 use Rattle.text.proofs.PrintingLengths.{signed-length}
 use Rattle.text.proofs.RoundTrip.{printed-reads}
 
@@ -98,12 +101,24 @@ letter-length word h = by (eqb (length word) 1) refl h
     by true e h = omega (arith, eqb-true (length word) 1 e)
     by false e h = absurd (let z = rw e at h in omega arith)
 
-reading-length : (word : List ℕ) → isReading word ≡ true → length word ≤ 11
+-- where there is a reading, the field is short
+abbrev ShortField : List ℕ → Reading → Type 0
+ShortField word r = isGiven r ≡ true → length word ≤ 11
+
+given-length : (ofRig : Bool) (word : List ℕ) → isGiven (readingIn ofRig word) ≡ true → length word ≤ 11
+unfolding readingIn singleIn isGiven
+given-length ofRig word =
+    pick-holds (ShortField word) (isWhole (numberOf word)) _ _ (λ w _. number-length word (numberOf word) refl w)
+    (λ _. pick-holds (ShortField word) ofRig _ _
+    (λ _. pick-holds (ShortField word) (isSingle word) _ _ (λ s _. omega (arith, single-length word s)) (λ _ e. never e))
+    (λ _ e. never e))
+
+reading-length : (ofRig : Bool) (word : List ℕ) → isReading ofRig word ≡ true → length word ≤ 11
 unfolding isReading
-reading-length word e = by (isWhole (numberOf word)) refl e
+reading-length ofRig word e = by (isGiven (readingIn ofRig word)) refl e
   where
-    by : (t : Bool) → isWhole (numberOf word) ≡ t → (isWhole (numberOf word) || eqb (letterOf word) 45) ≡ true → length word ≤ 11
-    by true q e = number-length word (numberOf word) refl q
+    by : (t : Bool) → isGiven (readingIn ofRig word) ≡ t → (isGiven (readingIn ofRig word) || eqb (letterOf word) 45) ≡ true → length word ≤ 11
+    by true q e = given-length ofRig word q
     by false q e = letter-length word (omega (arith, eqb-true (letterOf word) 45 (rw q at e)))
 
 box-length : (boxes : ℕ) (word : List ℕ) → (boxOf boxes word ≡ 0 → ⊥) → length word ≤ 11
@@ -117,7 +132,7 @@ box-length boxes word h = by (leb (counted (numberOf word)) boxes) refl h
 
 -- ---- the three kinds of lines
 
-module _ (m : ℕ) (line : List ℕ) (box : length (field 1 line) ≤ 11) where
+module _ (ofRig : Bool) (m : ℕ) (line : List ℕ) (box : length (field 1 line) ≤ 11) where
   -- where there is an event, the line is short
   abbrev Short : Event → Type 0
   Short event = (event ≡ Bad → ⊥) → length line ≤ 12 * m + 35
@@ -125,7 +140,7 @@ module _ (m : ℕ) (line : List ℕ) (box : length (field 1 line) ≤ 11) where
   begins : (b : ℕ) → 0 < b → eqb (letterOf (field 0 line)) b ≡ true → length (field 0 line) ≤ 11
   begins b h e = letter-length (field 0 line) (omega (arith, eqb-true (letterOf (field 0 line)) b e))
 
-  tick-length : length (field 0 line) ≤ 11 → (eqb (spaces line) (m + 1) && allReadings m line) ≡ true → length line ≤ 12 * m + 35
+  tick-length : length (field 0 line) ≤ 11 → (eqb (spaces line) (m + 1) && allReadings ofRig m line) ≡ true → length line ≤ 12 * m + 35
   unfolding allReadings
   tick-length first e =
       let q = both (eqb (spaces line) (m + 1)) _ e in
@@ -133,11 +148,11 @@ module _ (m : ℕ) (line : List ℕ) (box : length (field 1 line) ≤ 11) where
       let h = narrow line 0 (omega arith) (λ j l. at j (omega arith) (q .1)) in
       omega arith
     where
-      at : (j : ℕ) → j < m + 1 → allBelow m (λ i. isReading (field (i + 2) line)) ≡ true → length (field (suc j) line) ≤ 11
+      at : (j : ℕ) → j < m + 1 → allBelow m (λ i. isReading ofRig (field (i + 2) line)) ≡ true → length (field (suc j) line) ≤ 11
       at zero l all = box
       at (suc i) l all =
           let z : i + 2 ≡ suc (suc i) = omega arith in
-          rw z at (reading-length (field (i + 2) line) (all-at (λ i. isReading (field (i + 2) line)) m i all (omega arith)))
+          rw z at (reading-length ofRig (field (i + 2) line) (all-at (λ i. isReading ofRig (field (i + 2) line)) m i all (omega arith)))
 
   give-up-length : length (field 0 line) ≤ 11 → eqb (spaces line) 1 ≡ true → length line ≤ 12 * m + 35
   give-up-length first e =
@@ -165,13 +180,13 @@ module _ (m : ℕ) (line : List ℕ) (box : length (field 1 line) ≤ 11) where
   abbrev ShortCall : Called → Type 0
   ShortCall c = Short (c .event)
 
-  short-called : (at : ℕ) → Short (calledFor at m (letterOf (field 0 line)) (spaces line) line .event)
+  short-called : (at : ℕ) → Short (calledFor ofRig at m (letterOf (field 0 line)) (spaces line) line .event)
   unfolding calledFor tickCalled giveUpCalled deliveryCalled
   short-called at =
       let letter = letterOf (field 0 line) in
       let f = counted (numberOf (field 2 line)) in
       pick-holds ShortCall (eqb letter 84) _ _
-      (λ t. pick-holds ShortCall (eqb (spaces line) (m + 1) && allReadings m line) _ _ (λ e _. tick-length (begins 84 (omega arith) t) e) (λ _ h. absurd
+      (λ t. pick-holds ShortCall (eqb (spaces line) (m + 1) && allReadings ofRig m line) _ _ (λ e _. tick-length (begins 84 (omega arith) t) e) (λ _ h. absurd
       (h refl)))
       (λ _. pick-holds ShortCall (eqb letter 71) _ _
       (λ g. pick-holds Short (eqb (spaces line) 1) _ _ (λ e _. give-up-length (begins 71 (omega arith) g) e) (λ _ h. absurd (h refl)))
@@ -180,8 +195,8 @@ module _ (m : ℕ) (line : List ℕ) (box : length (field 1 line) ≤ 11) where
       (λ _ h. absurd (h refl))))
 
 -- a line with more bytes is no line of the format
-pub short-lines : (boxes m : ℕ) (line : List ℕ) → (called boxes m line .event ≡ Bad → ⊥) → length line ≤ 12 * m + 35
+pub short-lines : (ofRig : Bool) (boxes m : ℕ) (line : List ℕ) → (called ofRig boxes m line .event ≡ Bad → ⊥) → length line ≤ 12 * m + 35
 unfolding called
-short-lines boxes m line =
+short-lines ofRig boxes m line =
     pick-holds (λ (c : Called). (c .event ≡ Bad → ⊥) → length line ≤ 12 * m + 35) (eqb (boxOf boxes (field 1 line)) 0) _ _ (λ _ h. absurd (h refl))
-    (λ e. short-called m line (box-length boxes (field 1 line) (eqb-false _ 0 e)) (boxOf boxes (field 1 line)))
+    (λ e. short-called ofRig m line (box-length boxes (field 1 line) (eqb-false _ 0 e)) (boxOf boxes (field 1 line)))

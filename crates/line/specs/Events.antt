@@ -1,22 +1,23 @@
 -- What a line calls for: "`T r y` (tick, `-` for absent), `G r` (give up), `D r f` (deliver to r the frame that line f sent)". The letters T,
--- G and D are the bytes 84, 71 and 68, a minus is 45.
+-- G and D are the bytes 84, 71 and 68, a minus is 45. `ofRig` tells whether the line is one of `rig`, which takes singles, or of `bench`.
 use Prim.Native.Nat.{ℕ, _+_}
-use mathlib.Core.Bool.{Bool, false, _&&_, _||_}
-use mathlib.Core.List.{List}
-use lib.ListN.{length, getD, set}
+use mathlib.Core.Bool.{Bool, true, false, _&&_, _||_}
+use mathlib.Core.List.{List, map}
+use lib.ListN.{length, getD, set, replicate}
 use lib.Dec.{eqb, leb, ltb}
-use lib.IntN.{pos}
 use Rattle.lists.specs.Choice.{pick}
 use Rattle.lists.specs.Below.{allBelow}
 use Rattle.lists.specs.Places.{filled}
-use Rattle.readings.specs.declared.Readings.{Readings}
-use Rattle.readings.specs.Readings.{noReadings}
 use Rattle.text.specs.Numbers.{numberOf, counted, valueIn, isWhole}
+use Rattle.transmitters.specs.declared.Reading.{Reading}
+use Rattle.transmitters.specs.declared.Reading.the-variants.{Count, Newtons, Missing}
 use Rattle.line.specs.declared.events.Event.{Event}
 use Rattle.line.specs.declared.events.Event.the-variants.{Tick, GiveUp, Deliver, Bad}
+use Rattle.line.specs.declared.events.Place.{Place}
 use Rattle.line.specs.declared.events.Called.{Called}
 use Rattle.line.specs.declared.events.Row.{Row}
 use Rattle.line.specs.Fields.{spaces, field}
+use Rattle.line.specs.Singles.{singleIn}
 
 -- the byte of a field that has one alone, else 0
 unfoldable pub letterOf : List ℕ → ℕ
@@ -26,38 +27,56 @@ letterOf word = pick (eqb (length word) 1) (getD word 0 0) 0
 unfoldable pub boxOf : ℕ → List ℕ → ℕ
 boxOf boxes word = pick (leb (counted (numberOf word)) boxes) (counted (numberOf word)) 0
 
--- a number, or "`-` for absent"
-unfoldable pub isReading : List ℕ → Bool
-isReading word = isWhole (numberOf word) || eqb (letterOf word) 45
+-- "A reading arrives as a count (i32), as an IEEE 754 single in newtons, or marked missing.": a field that is a number is a count, and in a line of `rig`
+-- "`f` and eight digits" are a single; any other field is missing, as is "`-` for absent"
+unfoldable pub readingIn : (ofRig : Bool) → List ℕ → Reading
+readingIn ofRig word = pick (isWhole (numberOf word)) (Count (valueIn (numberOf word))) (pick ofRig (singleIn word) Missing)
+
+-- a reading that is not missing
+unfoldable pub isGiven : Reading → Bool
+isGiven (Count n) = true
+isGiven (Newtons x) = true
+isGiven Missing = false
+
+-- a field is a reading: there is one in it, or it is "`-` for absent"
+unfoldable pub isReading : (ofRig : Bool) → List ℕ → Bool
+isReading ofRig word = isGiven (readingIn ofRig word) || eqb (letterOf word) 45
 
 -- fields 2 to m + 1 are readings
-unfoldable pub allReadings : ℕ → List ℕ → Bool
-allReadings m line = allBelow m (λ j. isReading (field (j + 2) line))
+unfoldable pub allReadings : (ofRig : Bool) → ℕ → List ℕ → Bool
+allReadings ofRig m line = allBelow m (λ j. isReading ofRig (field (j + 2) line))
 
--- the readings of a tick's line
-unfoldable pub rowOf : ℕ → List ℕ → Readings
-rowOf m line = record {
-  present = filled false 4 m (λ j. isWhole (numberOf (field (j + 2) line)));
-  values = filled (pos 0) 4 m (λ j. valueIn (numberOf (field (j + 2) line)));
-}
+-- a place of a row, which holds a reading
+abbrev pub place : Reading → Place
+place reading = record { reading = reading }
+
+-- the readings in the places of a row
+unfoldable pub readingsOf : List Place → List Reading
+readingsOf row = map (λ (p : Place). p .reading) row
+
+-- the readings of a tick's line; those beyond m are missing
+unfoldable pub rowOf : (ofRig : Bool) → ℕ → List ℕ → List Place
+rowOf ofRig m line = filled (place Missing) 4 m (λ j. place (readingIn ofRig (field (j + 2) line)))
 
 -- the readings so far, and whether each field was one, with the field that is reading j
-unfoldable pub readWith : Row → ℕ → List ℕ → Row
-readWith row j word = record {
-  readings = record {
-    present = set (row .readings .present) j (isWhole (numberOf word));
-    values = set (row .readings .values) j (valueIn (numberOf word));
-  };
-  all = row .all && isReading word;
+unfoldable pub readWith : (ofRig : Bool) → Row → ℕ → List ℕ → Row
+readWith ofRig row j word = record {
+  readings = set (row .readings) j (place (readingIn ofRig word));
+  all = row .all && isReading ofRig word;
 }
+
+-- four readings that are missing
+abbrev pub missingRow : List Place
+missingRow = replicate 4 (place Missing)
 
 -- a line that is no tick has no reading
 abbrev pub calls : Event → Called
-calls event = record { event = event; readings = noReadings }
+calls event = record { event = event; readings = missingRow }
 
 -- `T r y`, with m readings: so many spaces stand in the line
-unfoldable pub tickCalled : (at m count : ℕ) → List ℕ → Called
-tickCalled at m count line = pick (eqb count (m + 1) && allReadings m line) (record { event = Tick at; readings = rowOf m line }) (calls Bad)
+unfoldable pub tickCalled : (ofRig : Bool) (at m count : ℕ) → List ℕ → Called
+tickCalled ofRig at m count line =
+    pick (eqb count (m + 1) && allReadings ofRig m line) (record { event = Tick at; readings = rowOf ofRig m line }) (calls Bad)
 
 -- `G r`
 unfoldable pub giveUpCalled : (at count : ℕ) → Called
@@ -68,14 +87,14 @@ unfoldable pub deliveryCalled : (at count f : ℕ) → Called
 deliveryCalled at count f = calls (pick (eqb count 2 && ltb 0 f) (Deliver at f) Bad)
 
 -- what a line with this letter and so many spaces calls for, at a box that is there
-unfoldable pub calledFor : (at m letter count : ℕ) → List ℕ → Called
-calledFor at m letter count line =
-    pick (eqb letter 84) (tickCalled at m count line)
+unfoldable pub calledFor : (ofRig : Bool) (at m letter count : ℕ) → List ℕ → Called
+calledFor ofRig at m letter count line =
+    pick (eqb letter 84) (tickCalled ofRig at m count line)
     (pick (eqb letter 71) (giveUpCalled at count)
     (pick (eqb letter 68) (deliveryCalled at count (counted (numberOf (field 2 line)))) (calls Bad)))
 
 -- what a line calls for, in a group of so many boxes with m readings
-unfoldable pub called : (boxes m : ℕ) → List ℕ → Called
-called boxes m line =
+unfoldable pub called : (ofRig : Bool) (boxes m : ℕ) → List ℕ → Called
+called ofRig boxes m line =
     pick (eqb (boxOf boxes (field 1 line)) 0) (calls Bad)
-    (calledFor (boxOf boxes (field 1 line)) m (letterOf (field 0 line)) (spaces line) line)
+    (calledFor ofRig (boxOf boxes (field 1 line)) m (letterOf (field 0 line)) (spaces line) line)

@@ -1,17 +1,18 @@
 // What a line of a script calls for. Each field is looked up once, and each number read once.
 ghost use mathlib.Core.Path.{_≡_};
-ghost use mathlib.Core.Bool.{_&&_};
+ghost use mathlib.Core.Bool.{_&&_, _||_};
 ghost use Prim.Native.Nat.{_+_, _≤_};
+ghost use lib.Dec.{eqb};
 ghost use lib.ListN.{set};
-ghost use Rattle.text.specs.Numbers.{numberOf, isWhole};
-ghost use Rattle.line.specs.Events.{letterOf, boxOf, isReading, allReadings, rowOf, readWith, calls as Events·calls, tickCalled, giveUpCalled, deliveryCalled, calledFor, called};
+ghost use Rattle.line.specs.Events.{letterOf, boxOf, readingIn, isGiven, allReadings, place, readingsOf, rowOf, readWith, missingRow, calls as Events·calls, tickCalled, giveUpCalled, deliveryCalled, calledFor, called};
 use crate::fields::count_spaces;
 use crate::fields::field;
-use readings::Readings;
+use crate::singles::single_in;
 use text::numbers::count_of;
 use text::numbers::is_whole;
 use text::numbers::number_in;
 use text::numbers::value_of;
+use transmitters::Reading;
 
 // A tick at a box; a view given up by a box; the frame that a line sent, delivered to a box.
 pub enum Event {
@@ -21,15 +22,20 @@ pub enum Event {
     Bad,
 }
 
+// A place of a row, since the prover covers no field that is an array of enums.
+pub struct Place {
+    pub reading: Reading,
+}
+
 // What a line calls for, and the readings of a tick.
 pub struct Called {
     pub event: Event,
-    pub readings: Readings,
+    pub readings: [Place; 4],
 }
 
 // The readings so far, and whether each field was one.
 struct Row {
-    readings: Readings,
+    readings: [Place; 4],
     all: bool,
 }
 
@@ -48,39 +54,56 @@ fn box_in(boxes: u8, word: &[u8]) -> u8
     if n <= (boxes as u32) { n as u8 } else { 0 }
 }
 
-// Whether a field is a reading: it is a number, or a minus alone where the reading is absent.
-fn is_reading(whole: bool, word: &[u8]) -> bool
-    requires { ⌜ whole ≡ isWhole (numberOf (now word)) ⌝ }
-    ensures { λ r. ⌜ r ≡ isReading (now (word .entry)) ⌝ }
+// The reading of a field: a number, or a single where the line is one of rig's. Any other field is missing.
+fn reading_in(of_rig: bool, word: &[u8]) -> Reading
+    ensures { λ r. ⌜ r ≡ readingIn «of_rig» (now (word .entry)) ⌝ }
 {
-    if whole {
-        return true;
+    let n = number_in(word);
+    if is_whole(n) {
+        return Reading::Count(value_of(n));
     }
-    letter(word) == 45
+    if of_rig {
+        return single_in(word);
+    }
+    Reading::Missing
 }
 
-// The marks with one more in place j, of which there are four.
-fn with_mark(present: [bool; 4], j: usize, mark: bool) -> [bool; 4]
-    ensures { λ r. ⌜ r ≡ set present j mark ⌝ }
+// Whether a field is a reading: there is this one in it, or it is a minus alone where the reading is absent.
+fn is_reading(reading: Reading, word: &[u8]) -> bool
+    ensures { λ r. ⌜ r ≡ (isGiven reading || eqb (letterOf (now (word .entry))) 45) ⌝ }
 {
-    let mut marks = present;
-    if j < 4 {
-        marks[j] = mark;
-        return marks;
+    match reading {
+        Reading::Count(_) => true,
+        Reading::Newtons(_) => true,
+        Reading::Missing => letter(word) == 45,
     }
-    marks
 }
 
-// The values with one more in place j, of which there are four.
-fn with_value(values: [i32; 4], j: usize, value: i32) -> [i32; 4]
-    ensures { λ r. ⌜ r ≡ set values j value ⌝ }
+// The row with a reading in place j, of which there are four.
+fn with_place(row: [Place; 4], j: usize, reading: Reading) -> [Place; 4]
+    ensures { λ r. ⌜ r ≡ set row j (place reading) ⌝ }
 {
-    let mut row = values;
+    let mut places = row;
     if j < 4 {
-        row[j] = value;
-        return row;
+        places[j] = Place { reading };
+        return places;
     }
-    row
+    places
+}
+
+// The readings in the places of a row.
+pub fn readings_of(row: [Place; 4]) -> [Reading; 4]
+    ensures { λ r. ⌜ r ≡ readingsOf row ⌝ }
+{
+    let a = row[0];
+    let b = row[1];
+    let c = row[2];
+    let d = row[3];
+    let first = a.reading;
+    let second = b.reading;
+    let third = c.reading;
+    let fourth = d.reading;
+    [first, second, third, fourth]
 }
 
 fn both(a: bool, b: bool) -> bool
@@ -90,34 +113,39 @@ fn both(a: bool, b: bool) -> bool
 }
 
 // The row with the reading of a field in place j.
-fn with_reading(row: Row, j: usize, word: &[u8]) -> Row
-    ensures { λ r. ⌜ r ≡ readWith row j (now (word .entry)) ⌝ }
+fn with_reading(of_rig: bool, row: Row, j: usize, word: &[u8]) -> Row
+    ensures { λ r. ⌜ r ≡ readWith «of_rig» row j (now (word .entry)) ⌝ }
 {
-    let n = number_in(word);
-    let whole = is_whole(n);
-    let all = both(row.all, is_reading(whole, word));
+    let reading = reading_in(of_rig, word);
+    let all = both(row.all, is_reading(reading, word));
     let before = row.readings;
-    let marks = before.present;
-    let present = with_mark(marks, j, whole);
-    let given = before.values;
-    let values = with_value(given, j, value_of(n));
-    let readings = Readings { present, values };
+    let readings = with_place(before, j, reading);
     Row { readings, all }
 }
 
-// Fields 2 to m + 1 as readings.
-fn row_in(m: usize, line: &[u8]) -> Row
-    requires { ⌜ m ≤ 255 ⌝ }
-    ensures { λ r. ⌜ (r .readings ≡ rowOf m (now (line .entry))) × (r .all ≡ allReadings m (now (line .entry))) ⌝ }
+// Four readings that are missing.
+fn missing() -> [Place; 4]
+    ensures { λ r. ⌜ r ≡ missingRow ⌝ }
 {
-    let readings = readings::no_readings();
+    let none = Place {
+        reading: Reading::Missing,
+    };
+    [none, none, none, none]
+}
+
+// Fields 2 to m + 1 as readings.
+fn row_in(of_rig: bool, m: usize, line: &[u8]) -> Row
+    requires { ⌜ m ≤ 255 ⌝ }
+    ensures { λ r. ⌜ (r .readings ≡ rowOf «of_rig» m (now (line .entry))) × (r .all ≡ allReadings «of_rig» m (now (line .entry))) ⌝ }
+{
+    let readings = missing();
     let mut row = Row {
         readings,
         all: true,
     };
     let mut j = 0;
     while j < m {
-        row = with_reading(row, j, field(line, j + 2));
+        row = with_reading(of_rig, row, j, field(line, j + 2));
         j += 1;
     }
     row
@@ -127,18 +155,18 @@ fn row_in(m: usize, line: &[u8]) -> Row
 fn calls(event: Event) -> Called
     ensures { λ r. ⌜ r ≡ Events·calls event ⌝ }
 {
-    let readings = readings::no_readings();
+    let readings = missing();
     Called { event, readings }
 }
 
-fn tick(at: u8, m: usize, count: usize, line: &[u8]) -> Called
+fn tick(of_rig: bool, at: u8, m: usize, count: usize, line: &[u8]) -> Called
     requires { ⌜ m ≤ 255 ⌝ }
-    ensures { λ r. ⌜ r ≡ tickCalled at m count (now (line .entry)) ⌝ }
+    ensures { λ r. ⌜ r ≡ tickCalled «of_rig» at m count (now (line .entry)) ⌝ }
 {
     if count != m + 1 {
         return calls(Event::Bad);
     }
-    let row = row_in(m, line);
+    let row = row_in(of_rig, m, line);
     if !row.all {
         return calls(Event::Bad);
     }
@@ -169,11 +197,11 @@ fn delivery(at: u8, count: usize, f: u32) -> Called
 }
 
 // What a line with this letter and so many spaces calls for.
-fn called_for(at: u8, m: u8, letter: u8, count: usize, line: &[u8]) -> Called
-    ensures { λ r. ⌜ r ≡ calledFor at m letter count (now (line .entry)) ⌝ }
+fn called_for(of_rig: bool, at: u8, m: u8, letter: u8, count: usize, line: &[u8]) -> Called
+    ensures { λ r. ⌜ r ≡ calledFor «of_rig» at m letter count (now (line .entry)) ⌝ }
 {
     if letter == 84 {
-        return tick(at, m as usize, count, line);
+        return tick(of_rig, at, m as usize, count, line);
     }
     if letter == 71 {
         return give_up(at, count);
@@ -184,13 +212,20 @@ fn called_for(at: u8, m: u8, letter: u8, count: usize, line: &[u8]) -> Called
     calls(Event::Bad)
 }
 
-// What a line calls for, in a group of so many boxes with m readings.
-pub fn call_in(boxes: u8, m: u8, line: &[u8]) -> Called
-    ensures { λ r. ⌜ r ≡ called boxes m (now (line .entry)) ⌝ }
+// What a line calls for, in a group of so many boxes with m readings. A line of rig's may have singles for readings.
+pub fn call_in(of_rig: bool, boxes: u8, m: u8, line: &[u8]) -> Called
+    ensures { λ r. ⌜ r ≡ called «of_rig» boxes m (now (line .entry)) ⌝ }
 {
     let at = box_in(boxes, field(line, 1));
     if at == 0 {
         return calls(Event::Bad);
     }
-    called_for(at, m, letter(field(line, 0)), count_spaces(line), line)
+    called_for(
+        of_rig,
+        at,
+        m,
+        letter(field(line, 0)),
+        count_spaces(line),
+        line,
+    )
 }

@@ -2,3 +2,4 @@
 pub mod events;
 pub mod fields;
 pub mod frames;
+mod singles;

@@ -1,7 +1,7 @@
--- Laws of `filled`: a turn of the loop that fills, the length, what stands at each place, and the places in use as a list of their own.
--- Assumes nothing.
+-- Laws of `filled`: a turn of the loop that fills, the length, what stands at each place, and the places in use as a list of their own; and a list of
+-- four places. Assumes nothing.
 use mathlib.Core.Path.{_≡_, refl, sym, ap, ap₂, _∙_, subst}
-use mathlib.Core.List.{List, _∷_, _++_}
+use mathlib.Core.List.{List, [], _∷_, _++_}
 use Prim.Native.Nat.{ℕ, zero, suc, _+_, _-_, _≤_, _<_}
 use native.Mathlib.Nat.{not-suc-le-zero, le-of-suc-le-suc, sub-zero, suc-sub-suc, zero-sub}
 use native.Mathlib.Numerals.{add-one}
@@ -115,3 +115,12 @@ module _ {ℓ} {A : Type ℓ} (blank : A) where
   drop-blanks zero width = rw sub-zero
   drop-blanks (suc n) zero = rw zero-sub
   drop-blanks (suc n) (suc width) = rw suc-sub-suc (drop-blanks n width)
+
+  -- four places, one by one
+  pub four-places : (xs : List A) → length xs ≡ 4 → xs ≡ getD xs 0 blank ∷ getD xs 1 blank ∷ getD xs 2 blank ∷ getD xs 3 blank ∷ []
+  four-places [] h = absurd (omega arith)
+  four-places (a ∷ []) h = absurd (omega arith)
+  four-places (a ∷ b ∷ []) h = absurd (omega arith)
+  four-places (a ∷ b ∷ c ∷ []) h = absurd (omega arith)
+  four-places (a ∷ b ∷ c ∷ d ∷ []) h = refl
+  four-places (a ∷ b ∷ c ∷ d ∷ e ∷ xs) h = absurd (omega arith)

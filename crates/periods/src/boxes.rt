@@ -1,8 +1,8 @@
 // Groups of three and of nine boxes, with coefficients that keep the state near its readings.
 use frame::lengths::LONGEST_COMMAND;
-use readings::Readings;
 use replica::Replica;
 use replica::Settings;
+use transmitters::Reading;
 
 // Three replicas, and the command written last.
 pub struct Three {
@@ -87,10 +87,21 @@ pub fn made_nine() -> Nine {
     }
 }
 
-// The readings of every tick: the first m are present.
-pub fn row(m: usize) -> Readings {
-    Readings {
-        present: [0 < m, 1 < m, 2 < m, 3 < m],
-        values: [103, 204, 305, 406],
+// A count where the reading is there.
+fn count(present: bool, n: i32) -> Reading {
+    if present {
+        Reading::Count(n)
+    } else {
+        Reading::Missing
     }
+}
+
+// The readings of every tick: the first m are there.
+pub fn row(m: usize) -> [Reading; 4] {
+    [
+        count(0 < m, 103),
+        count(1 < m, 204),
+        count(2 < m, 305),
+        count(3 < m, 406),
+    ]
 }

@@ -8,6 +8,7 @@ mod rules;
 ghost use mathlib.Core.Path.{_≡_};
 ghost use lib.ListN.{length};
 ghost use Rattle.scram.specs.Answers.{answered};
+ghost use Rattle.transmitters.specs.Conversion.{convertedRow};
 ghost use Rattle.replica.specs.Calls.{tickOutcome, giveUpOutcome, arriveOutcome, Gives, madeAnswer, made};
 ghost use Rattle.replica.specs.Rules.{steppedBy};
 use arrivals::arrive_bytes;
@@ -24,6 +25,7 @@ use refusals::tick_refusal;
 use rules::after_tick;
 use rules::give_up_view;
 use scram::Answer;
+use transmitters::Reading;
 
 // The group's size N, the box's own number, and the settings of the law. Those of one group differ in the own number alone.
 pub struct Settings {
@@ -111,8 +113,17 @@ impl Replica {
         }
     }
 
-    // A tick with readings. The update's own look at the settings is the step's.
-    pub fn tick(self, readings: Readings, frame: &mut [u8], command: &mut [u8]) -> Stepped
+    // A tick with readings as the transmitters send them. Nothing looks at the row before it is converted.
+    pub fn tick(self, readings: [Reading; 4], frame: &mut [u8], command: &mut [u8]) -> Stepped
+        ensures { λ r. ⌜ Gives (self .settings) (tickOutcome self (convertedRow readings) (length (now (frame .entry))) (length (now (command .entry))))
+            r (now (frame .entry)) (now (frame .exit)) (now (command .entry)) (now (command .exit)) ⌝ }
+    {
+        let converted = transmitters::convert_row(readings);
+        self.tick_converted(converted, frame, command)
+    }
+
+    // A tick with converted readings. The update's own look at the settings is the step's.
+    fn tick_converted(self, readings: Readings, frame: &mut [u8], command: &mut [u8]) -> Stepped
         ensures { λ r. ⌜ Gives (self .settings) (tickOutcome self readings (length (now (frame .entry))) (length (now (command .entry))))
             r (now (frame .entry)) (now (frame .exit)) (now (command .entry)) (now (command .exit)) ⌝ }
     {

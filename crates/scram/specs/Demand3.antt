@@ -26,7 +26,8 @@ module _ {State Readings Values : Type 0} (law : Law State Readings Values) (row
 -- ---- the claim
 
 module _ {State Readings Values : Type 0} (system : System State Readings Values) where
-  -- "Row k is one that some box was handed for period k: by that box's k-th tick not refused."
+  -- "Row k is one that some box was handed for period k: by that box's k-th tick not refused." "In the run of demand 3 a reading means its
+  -- converted value.": `system .row` is the row of what was handed, as the law reads it.
   pub record HandedFor (h : List (Entry (system .Handed) (system .Areas))) (k : ℕ) (y : Readings) : Type 0 where
     pub box : ℕ
     pub handed : system .Handed

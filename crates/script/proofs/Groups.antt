@@ -14,11 +14,11 @@ use Rattle.script.specs.Printing.{refusalLine}
 use Rattle.script.specs.Script.{leftBy, groupOutput}
 
 module _ (s : Settings) (text : List ℕ) where
-  pub group-made : madeAnswer s ≡ Done → groupOutput s text ≡ leftBy s text .printed
+  pub group-made : madeAnswer s ≡ Done → groupOutput s text ≡ leftBy true s text .printed
   unfolding groupOutput pick
   group-made e = by (eqb (settingsRefusal s) 0) refl e
     where
-      by : (t : Bool) → eqb (settingsRefusal s) 0 ≡ t → madeAnswer s ≡ Done → groupOutput s text ≡ leftBy s text .printed
+      by : (t : Bool) → eqb (settingsRefusal s) 0 ≡ t → madeAnswer s ≡ Done → groupOutput s text ≡ leftBy true s text .printed
       by true z e = rw z
       by false z e = absurd (let d : Refused (settingsRefusal s) ≡ Done = rw z at e in let n : _≡_ {A = ℕ} 0 1 = cc in omega arith)
 

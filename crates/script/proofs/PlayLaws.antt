@@ -7,7 +7,7 @@ use native.Mathlib.Omega.{arith}
 use lib.Dec.{leb, ltb}
 use lib.ListN.{length, set, take, replicate}
 use borrow.Author.Tests.{leb-true, ltb-true}
-use Rattle.readings.specs.declared.Readings.{Readings}
+use Rattle.transmitters.specs.declared.Reading.{Reading}
 use Rattle.lists.specs.Choice.{pick}
 use Rattle.lists.proofs.Booleans.{both, never}
 use Rattle.scram.specs.declared.Answer.the-variants.{Ignored}
@@ -110,7 +110,7 @@ earlier Bad number lengths e h = never e
 
 -- ---- the line
 
-module _ (r : Replica) (event : Event) (y : Readings) (at number : ℕ) (table lengths text text′ : List ℕ) (one : PlayedLine) where
+module _ (r : Replica) (event : Event) (y : List Reading) (at number : ℕ) (table lengths text text′ : List ℕ) (one : PlayedLine) where
   pub leaves-bad : (hasRoom event number (length table) (length lengths) && playable event number lengths) ≡ false
       → (one .replica ≡ r) × Puts text at (badLine number) (one .end) text′
       → Leaves (afterEvent r event y number table lengths) at one table lengths text text′

@@ -5,8 +5,9 @@ use mathlib.Core.Bool.{Bool, true, false, _&&_}
 use mathlib.Core.List.{List, [], _∷_}
 use lib.ListN.{length, getD, set, replicate}
 use lib.Dec.{leb, ltb}
-use Rattle.readings.specs.declared.Readings.{Readings}
 use Rattle.lists.specs.Choice.{pick}
+use Rattle.transmitters.specs.declared.Reading.{Reading}
+use Rattle.transmitters.specs.Conversion.{convertedRow}
 use Rattle.scram.specs.Events.{ignoring}
 use Rattle.bytes.specs.Areas.{over}
 use Rattle.text.specs.Printing.{Puts}
@@ -60,8 +61,8 @@ unfoldable pub hasRoom : Event → ℕ → ℕ → ℕ → Bool
 hasRoom event number table lengths = leb number most && (leb (boxIn event) 9 && (leb tableLength table && leb (most + 1) lengths))
 
 -- what an event does at a replica that is lent areas so long; bytes are those of the frame delivered
-unfoldable pub outcomeOf : Replica → Event → Readings → List ℕ → ℕ → ℕ → Outcomes
-outcomeOf r (Tick at) y bytes frame command = tickOutcome r y frame command
+unfoldable pub outcomeOf : Replica → Event → List Reading → List ℕ → ℕ → ℕ → Outcomes
+outcomeOf r (Tick at) y bytes frame command = tickOutcome r (convertedRow y) frame command
 outcomeOf r (GiveUp at) y bytes frame command = giveUpOutcome r frame command
 outcomeOf r (Deliver at f) y bytes frame command = arriveOutcome r bytes frame command
 outcomeOf r Bad y bytes frame command = ignoring (heldIn (r .held))
@@ -89,11 +90,11 @@ afterStep at number table lengths s o = record {
 }
 
 -- what an event does at its box, which is lent areas of the longest frame and command
-unfoldable pub eventOutcome : Replica → Event → Readings → List ℕ → List ℕ → Outcomes
+unfoldable pub eventOutcome : Replica → Event → List Reading → List ℕ → List ℕ → Outcomes
 eventOutcome r event y table lengths = outcomeOf r event y (frameOf table (lineIn event) (getD lengths (lineIn event) 0)) longestFrame longestCommand
 
 -- what the line of an event leaves, at the replica of its box
-unfoldable pub afterEvent : Replica → Event → Readings → ℕ → List ℕ → List ℕ → After
+unfoldable pub afterEvent : Replica → Event → List Reading → ℕ → List ℕ → List ℕ → After
 afterEvent r event y number table lengths =
     pick (hasRoom event number (length table) (length lengths) && playable event number lengths)
     (afterStep (boxIn event) number table lengths (r .settings) (eventOutcome r event y table lengths))

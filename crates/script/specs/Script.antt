@@ -1,13 +1,14 @@
 -- A whole script: its lines, what they leave one after the other, and what `bench` and `rig` print of it.
 use Prim.Native.Nat.{ℕ, zero, suc, _+_, _*_, min}
 use mathlib.Core.Path.{_≡_}
+use mathlib.Core.Bool.{Bool, true, false}
 use mathlib.Core.List.{List, [], _∷_, _++_}
 use lib.ListN.{length, getD, set, replicate}
 use lib.Dec.{eqb}
 use Rattle.lists.specs.Choice.{pick}
 use Rattle.bytes.specs.Areas.{over}
 use Rattle.line.specs.declared.events.Called.{Called}
-use Rattle.line.specs.Events.{called}
+use Rattle.line.specs.Events.{readingsOf, called}
 use Rattle.replica.specs.declared.Settings.{Settings}
 use Rattle.replica.specs.declared.Replica.{Replica}
 use Rattle.replica.specs.Settings.{blankSettings}
@@ -62,7 +63,7 @@ replicaAt replicas place = getD replicas place (made blankSettings)
 -- one line more, of this number, that calls for c: its box has the replica then that the line leaves, and what the line prints is printed after
 unfoldable pub afterCall : Left → ℕ → Called → Left
 afterCall l number c =
-    let a = afterEvent (replicaAt (l .replicas) (placeOf (c .event))) (c .event) (c .readings) number (l .table) (l .lengths) in
+    let a = afterEvent (replicaAt (l .replicas) (placeOf (c .event))) (c .event) (readingsOf (c .readings)) number (l .table) (l .lengths) in
     record {
       replicas = set (l .replicas) (placeOf (c .event)) (a .replica);
       table = a .table;
@@ -70,24 +71,25 @@ afterCall l number c =
       printed = l .printed ++ a .printed;
     }
 
--- what the lines of a script leave, in a group of so many boxes with m readings, the first of them after `number` others
-unfoldable pub played : (boxes m number : ℕ) → Left → List (List ℕ) → Left
-played boxes m number l [] = l
-played boxes m number l (line ∷ lines) = played boxes m (suc number) (afterCall l (suc number) (called boxes m line)) lines
+-- what the lines of a script leave, in a group of so many boxes with m readings, the first of them after `number` others; `ofRig` tells whether they
+-- are lines of `rig`
+unfoldable pub played : (ofRig : Bool) (boxes m number : ℕ) → Left → List (List ℕ) → Left
+played ofRig boxes m number l [] = l
+played ofRig boxes m number l (line ∷ lines) = played ofRig boxes m (suc number) (afterCall l (suc number) (called ofRig boxes m line)) lines
 
 -- what a script leaves that is played by a group with these settings, which has at most four readings; "It reads at most 500 lines"
-unfoldable pub leftBy : Settings → List ℕ → Left
-leftBy s text = played (s .boxes) (min (s .law .m) 4) 0 (unplayed s) (linesOf most text)
+unfoldable pub leftBy : (ofRig : Bool) → Settings → List ℕ → Left
+leftBy ofRig s text = played ofRig (s .boxes) (min (s .law .m) 4) 0 (unplayed s) (linesOf most text)
 
 -- ---- what the programs print
 
 -- what program `bench` prints of the text on its standard input
 unfoldable pub benchOutput : List ℕ → List ℕ
-benchOutput text = leftBy bench text .printed
+benchOutput text = leftBy false bench text .printed
 
 -- what the rig prints of a group that its first line describes, "`r` and the number alone" where making refuses its settings
 unfoldable pub groupOutput : Settings → List ℕ → List ℕ
-groupOutput s text = pick (eqb (settingsRefusal s) 0) (leftBy s text .printed) (refusalLine (settingsRefusal s))
+groupOutput s text = pick (eqb (settingsRefusal s) 0) (leftBy true s text .printed) (refusalLine (settingsRefusal s))
 
 -- what it prints of a first line: `bad` or the refusal of its sizes alone, or what the group that it describes prints of the lines after
 unfoldable pub openedOutput : Opening → Settings → List ℕ → List ℕ

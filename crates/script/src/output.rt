@@ -14,6 +14,7 @@ use crate::printing::put_bad;
 use crate::printing::put_header;
 use crate::printing::refusal_line;
 use line::events::call_in;
+use line::events::readings_of;
 use opening::Opening;
 use opening::open;
 use replica::Replica;
@@ -43,6 +44,7 @@ fn line_end(text: &[u8], from: usize) -> usize
 
 // Plays the lines of a text after the first `start` bytes of the output.
 fn play_lines(
+    of_rig: bool,
     replicas: [Replica; 10],
     boxes: u8,
     m: u8,
@@ -54,7 +56,7 @@ fn play_lines(
 ) -> usize
     requires { ⌜ (length (now table) ≡ tableLength) × (length (now lengths) ≡ most + 1) × (start + lineRoom * most ≤ length (now output)) ⌝ }
     ensures { λ r. ⌜ Prints
-        (played boxes m 0 (left replicas (now (table .entry)) (now (lengths .entry)) (take start (now (output .entry)))) (linesOf most (now (text .entry))) .printed)
+        (played «of_rig» boxes m 0 (left replicas (now (table .entry)) (now (lengths .entry)) (take start (now (output .entry)))) (linesOf most (now (text .entry))) .printed)
         r (now (output .entry)) (now (output .exit)) × (start ≤ r) ⌝ }
 {
     let mut held = replicas;
@@ -67,9 +69,10 @@ fn play_lines(
         }
         let stop = line_end(text, at);
         number += 1;
-        let called = call_in(boxes, m, &text[at..stop]);
+        let called = call_in(of_rig, boxes, m, &text[at..stop]);
         let event = called.event;
-        let readings = called.readings;
+        let row = called.readings;
+        let readings = readings_of(row);
         let place = place_of(event);
         let one = play(
             held[place],
@@ -90,9 +93,9 @@ fn play_lines(
 }
 
 // What a script prints that is played by a group with these settings.
-fn play_script(settings: Settings, text: &[u8], output: &mut [u8]) -> usize
+fn play_script(of_rig: bool, settings: Settings, text: &[u8], output: &mut [u8]) -> usize
     requires { ⌜ length (now output) ≡ outputRoom ⌝ }
-    ensures { λ r. ⌜ Prints (leftBy settings (now (text .entry)) .printed) r (now (output .entry)) (now (output .exit)) ⌝ }
+    ensures { λ r. ⌜ Prints (leftBy «of_rig» settings (now (text .entry)) .printed) r (now (output .entry)) (now (output .exit)) ⌝ }
 {
     let mut table = [0u8; TABLE];
     let mut lengths = [0usize; LENGTHS];
@@ -100,6 +103,7 @@ fn play_script(settings: Settings, text: &[u8], output: &mut [u8]) -> usize
     let m = at_most(settings.law.m, 4);
     let start = put_header(output, 0);
     play_lines(
+        of_rig,
         replicas,
         settings.boxes,
         m as u8,
@@ -115,7 +119,7 @@ fn play_script(settings: Settings, text: &[u8], output: &mut [u8]) -> usize
 pub fn bench(text: &[u8], output: &mut [u8; OUTPUT]) -> usize
     ensures { λ r. ⌜ Prints (benchOutput (now (text .entry))) r (now (output .entry)) (now (output .exit)) ⌝ }
 {
-    play_script(bench_settings(), text, output)
+    play_script(false, bench_settings(), text, output)
 }
 
 // What the rig prints of a group that its first line describes: `r` and a number where making refuses it.
@@ -126,8 +130,8 @@ fn group(settings: Settings, text: &[u8], output: &mut [u8]) -> usize
     let made = Replica::make(settings);
     let answer = made.answer;
     match answer {
-        Answer::Done => play_script(settings, text, output),
-        Answer::Ignored => play_script(settings, text, output),
+        Answer::Done => play_script(true, settings, text, output),
+        Answer::Ignored => play_script(true, settings, text, output),
         Answer::Refused(number) => refusal_line(output, 0, number),
     }
 }

@@ -14,11 +14,11 @@ use line::events::Event;
 use line::frames::frame_of;
 use line::frames::keep;
 use line::frames::was_sent;
-use readings::Readings;
 use replica::Replica;
 use replica::Settings;
 use replica::Stepped;
 use scram::Answer;
+use transmitters::Reading;
 
 // "at most 500 lines": each has a slot in the table of frames and a place in the list of their lengths, and lines are counted from 1.
 pub(crate) const MOST: u32 = 500;
@@ -37,7 +37,7 @@ pub(crate) struct PlayedLine {
 fn step(
     replica: Replica,
     event: Event,
-    readings: Readings,
+    readings: [Reading; 4],
     arriving: &[u8],
     frame: &mut [u8],
     command: &mut [u8],
@@ -122,7 +122,7 @@ fn bad(replica: Replica, number: u32, text: &mut [u8], at: usize) -> PlayedLine
 fn play_event(
     replica: Replica,
     event: Event,
-    readings: Readings,
+    readings: [Reading; 4],
     number: u32,
     table: &mut [u8],
     lengths: &mut [usize],
@@ -157,7 +157,7 @@ fn play_event(
 pub(crate) fn play(
     replica: Replica,
     event: Event,
-    readings: Readings,
+    readings: [Reading; 4],
     number: u32,
     table: &mut [u8],
     lengths: &mut [usize],

@@ -2,7 +2,8 @@
 use Prim.Native.Nat.{ℕ}
 use mathlib.Core.Path.{_≡_, ap, subst, _∙_}
 use mathlib.Core.List.{List, [], _∷_}
-use Rattle.readings.specs.declared.Readings.{Readings}
+use Rattle.transmitters.specs.declared.Reading.{Reading}
+use Rattle.transmitters.specs.Conversion.{convertedRow}
 use Rattle.scram.specs.Answers.{Answered}
 use Rattle.replica.specs.declared.Settings.{Settings}
 use Rattle.replica.specs.declared.Replica.{Replica}
@@ -33,9 +34,10 @@ module _ (step : Replica → Outcomes) {number : ℕ} {held : Areas} {lengths fr
       same
       (at (subst (λ (x : Outcomes). Gives (r .settings) x st frame frame′ command command′) does gives) laid)
 
--- a tick with the same row
-pub same-row : (r : Replica) (frame command : ℕ) {y y′ : Readings} → y ≡ y′ → tickOutcome r y frame command ≡ tickOutcome r y′ frame command
-same-row r frame command row = ap (λ (x : Readings). tickOutcome r x frame command) row
+-- a tick with the same readings
+pub same-row : (r : Replica) (frame command : ℕ) {y y′ : List Reading} → y ≡ y′
+    → tickOutcome r (convertedRow y) frame command ≡ tickOutcome r (convertedRow y′) frame command
+same-row r frame command row = ap (λ (x : List Reading). tickOutcome r (convertedRow x) frame command) row
 
 -- making leaves what its contract says, with the settings in the caller's areas
 pub makes : {s s′ : Settings} {a : Answered} {r : Replica} {number : ℕ} {held : Areas} → s ≡ s′ → a ≡ madeAnswer s → r ≡ made s → number ≡ numberOf a

@@ -1,7 +1,8 @@
 // Making, and the three steps. A step takes the settings, what is held, what its event needs, and the two lent areas.
 ghost use lib.ListN.{length};
 ghost use Rattle.replica.specs.Calls.{tickOutcome, giveUpOutcome, arriveOutcome};
-ghost use Rattle.winder.specs.LawAreas.{readingsOf};
+ghost use Rattle.transmitters.specs.Conversion.{convertedRow};
+ghost use Rattle.transmitters.specs.Numbers.{readingsOf};
 ghost use Rattle.steps.specs.Areas.{settingsOf, areas};
 ghost use Rattle.steps.specs.Calls.{replicaOf, Makes, Leaves};
 use crate::areas::held_of;
@@ -10,7 +11,7 @@ use crate::areas::put_held;
 use crate::areas::put_step;
 use crate::areas::settings_of;
 use replica::Replica;
-use winder::areas::readings_of;
+use transmitters::numbers::readings_of;
 
 // A fresh replica.
 #[no_mangle]
@@ -60,7 +61,7 @@ pub extern "C" fn steps_make(
     number_of(answer)
 }
 
-// A tick with readings.
+// A tick with readings, each by its kind and its bits.
 #[no_mangle]
 pub extern "C" fn steps_tick(
     group: &[u8; 2],
@@ -81,8 +82,8 @@ pub extern "C" fn steps_tick(
     best_state: &mut [i32; 6],
     best_present: &mut [u8; 4],
     best_values: &mut [i32; 4],
-    row_marks: &[u8; 4],
-    row_values: &[i32; 4],
+    kinds: &[u8; 4],
+    bits: &[u32; 4],
     frame: &mut [u8],
     command: &mut [u8],
     lengths: &mut [usize; 2],
@@ -93,7 +94,7 @@ pub extern "C" fn steps_tick(
         (now (high .entry)) (now (start .entry)))
         (areas (now (counters .entry)) (now (marks .entry)) (now (heard .entry)) (now (state .entry)) (now (present .entry)) (now (values .entry))
         (now («best_state» .entry)) (now («best_present» .entry)) (now («best_values» .entry))))
-        (λ replica. tickOutcome replica (readingsOf (now («row_marks» .entry)) (now («row_values» .entry)))
+        (λ replica. tickOutcome replica (convertedRow (readingsOf (now (kinds .entry)) (now (bits .entry))))
         (length (now (frame .entry))) (length (now (command .entry))))
         r
         (areas (now (counters .exit)) (now (marks .exit)) (now (heard .exit)) (now (state .exit)) (now (present .exit)) (now (values .exit))
@@ -113,7 +114,7 @@ pub extern "C" fn steps_tick(
         best_values,
     );
     let replica = Replica { settings, held };
-    let readings = readings_of(row_marks, row_values);
+    let readings = readings_of(kinds, bits);
     let stepped = replica.tick(readings, frame, command);
     put_step(
         stepped,

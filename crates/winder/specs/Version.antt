@@ -7,7 +7,7 @@ major = 1
 
 -- a further call makes a new minor version
 abbrev pub minor : ℕ
-minor = 0
+minor = 1
 
 -- both as one number
 abbrev pub version : ℕ

@@ -11,6 +11,13 @@ pub type Readings = [Option<i32>; 4];
 /// What the law commands; places beyond p are 0.
 pub type Commands = [i32; 4];
 
+/// A reading that its transmitter sends in newtons; none for what counts as missing.
+pub fn reading(newtons: f32) -> Option<i32> {
+    let mut value = 0;
+    let present = winder::convert_single(newtons.to_bits(), &mut value);
+    (present != 0).then_some(value)
+}
+
 /// The state after one period with these readings, or the number by which the law refuses its
 /// settings.
 pub fn update(settings: &Settings, state: State, readings: Readings) -> Result<State, u32> {

@@ -1,4 +1,5 @@
-//! Runs the bench's law for a few periods, and once with a coefficient that it refuses.
+//! Runs the bench's law for a few periods, once with a coefficient that it refuses, and then with
+//! readings in newtons, of which one counts as missing.
 
 mod law;
 
@@ -69,5 +70,9 @@ fn main() {
     let mut out_of_range = law.clone();
     out_of_range.l[0] = 16_777_217;
     state = print_period(5, &out_of_range, state, Some(100));
-    print_period(6, &law, state, Some(100));
+    state = print_period(6, &law, state, Some(100));
+
+    for (i, newtons) in [0.002, f32::NAN].into_iter().enumerate() {
+        state = print_period(i + 7, &law, state, law::reading(newtons));
+    }
 }

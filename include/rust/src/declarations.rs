@@ -3,6 +3,8 @@
 extern "C" {
     pub fn winder_version() -> u32;
 
+    pub fn winder_convert_single(bits: u32, value: &mut i32) -> u8;
+
     pub fn winder_update(
         n: usize,
         m: usize,

@@ -6,17 +6,24 @@
 mod declarations;
 
 use declarations::{
-    winder_command, winder_read_command, winder_read_frame, winder_update, winder_version,
-    winder_write_frame,
+    winder_command, winder_convert_single, winder_read_command, winder_read_frame, winder_update,
+    winder_version, winder_write_frame,
 };
 
 /// The version of these declarations: major version times 100, and minor version.
-pub const VERSION: u32 = 100;
+pub const VERSION: u32 = 101;
 
 /// The version of the archive.
 #[inline]
 pub fn version() -> u32 {
     unsafe { winder_version() }
+}
+
+/// Converts a reading that is a single in newtons, by its bits (`f32::to_bits`). Gives the present mark, 1 or 0; the value is 0 where the
+/// reading is missing.
+#[inline]
+pub fn convert_single(bits: u32, value: &mut i32) -> u8 {
+    unsafe { winder_convert_single(bits, value) }
 }
 
 /// Sizes, tables in units of 1/65536, and limits. A(i,j) is `a[i * 6 + j]`, L(i,j) is `l[i * 4 + j]`, C(j,i) is `c[j * 6 + i]` and K(j,i)

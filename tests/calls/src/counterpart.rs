@@ -2,6 +2,7 @@
 
 use second::frame;
 use second::law::{self, Settings};
+use second::reading;
 use second::refusal::Refusal;
 
 use crate::areas::{of_frame, row, to_frame, Fields, Sizes};
@@ -48,6 +49,13 @@ pub fn command(
 ) -> u32 {
     let values = law::command(&sized(sizes, settings), state);
     answer(values, commands)
+}
+
+/// What is missing has the value 0.
+pub fn convert_single(bits: u32, value: &mut i32) -> u8 {
+    let converted = reading::convert_single(bits);
+    *value = converted.unwrap_or(0);
+    converted.is_some().into()
 }
 
 pub fn read(sizes: Sizes, bytes: &[u8], fields: &mut Fields) -> u32 {

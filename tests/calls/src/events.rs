@@ -6,13 +6,14 @@ use second::replica::coordinator;
 use crate::damage::{self, Damage};
 use crate::draft::Draft;
 use crate::handed_in::{near, Fit, HandedIn};
+use crate::handed_readings::{self, Handed};
 use crate::prng::Prng;
-use crate::values::{byte, mark, value};
+use crate::values::byte;
 
 #[derive(Clone, Debug)]
 pub enum Event {
     Make,
-    Tick { present: [u8; 4], values: [i32; 4] },
+    Tick { readings: [Handed; 4] },
     GiveUp,
     Arrive { damage: Damage, bytes: Vec<u8> },
 }
@@ -26,14 +27,15 @@ pub fn make(prng: &mut Prng, handed_in: &HandedIn) -> Event {
     }
 }
 
-/// At times with a mark at or above m.
+/// At times with readings at or above m that are there; else with such as are
+/// missing or count as missing.
 fn tick(prng: &mut Prng, m: usize) -> Event {
-    let mut present = [(); 4].map(|()| mark(prng));
-    if !prng.chance(20) {
-        present[m..].fill(0);
-    }
-    let values = [(); 4].map(|()| value(prng));
-    Event::Tick { present, values }
+    let everywhere = prng.chance(20);
+    let readings = [0, 1, 2, 3].map(|j| match j < m || everywhere {
+        true => handed_readings::any(prng),
+        false => handed_readings::missing(prng),
+    });
+    Event::Tick { readings }
 }
 
 fn arrival(prng: &mut Prng, handed_in: &HandedIn) -> Event {

@@ -4,9 +4,9 @@
 use std::env;
 use std::process::Command;
 
-use second::fault::{Fault, FRAME_NAMES, LAW_NAMES, NAMES, STEP_NAMES, VARIABLE};
+use second::fault::{Fault, FRAME_NAMES, LAW_NAMES, NAMES, READING_NAMES, STEP_NAMES, VARIABLE};
 
-use crate::{frames, law, steps};
+use crate::{frames, law, singles, steps};
 
 const MOST_CALLS: usize = 100_000;
 
@@ -15,12 +15,23 @@ pub fn table(seed: u64) -> Result<(), String> {
     println!("{:<26}first difference", "fault");
     let all_found = rows(seed, "frames", &FRAME_NAMES)?
         & rows(seed, "law", &LAW_NAMES)?
+        & rows(seed, "singles", &of_singles())?
         & rows(seed, "steps", &NAMES)?
-        & rows(seed, "steps", &STEP_NAMES)?;
+        & rows(seed, "steps", &STEP_NAMES)?
+        & rows(seed, "steps", &READING_NAMES)?;
     match all_found {
         true => Ok(()),
         false => Err("a planted fault was not found".to_string()),
     }
+}
+
+/// The faults of readings that a single's bits can show: the others are about
+/// readings that are no singles, and about refusal 7.
+fn of_singles() -> Vec<(&'static str, Fault)> {
+    let others = [Fault::MissingPresent, Fault::MarksUnconverted];
+    let mut faults = READING_NAMES.to_vec();
+    faults.retain(|(_, fault)| !others.contains(fault));
+    faults
 }
 
 /// Prints the rows of some faults; gives whether each was found.
@@ -56,10 +67,13 @@ pub fn search(calls: &str, seed: u64) -> Result<(), String> {
             |seed, number| frames::compare(seed, number, &mut frames::Counts::default()).is_err()
         }
         "law" => |seed, number| law::compare(seed, number, &mut law::Counts::default()).is_err(),
+        "singles" => {
+            |seed, number| singles::compare(seed, number, &mut singles::Counts::default()).is_err()
+        }
         "steps" => {
             |seed, number| steps::compare(seed, number, &mut steps::Counts::default()).is_err()
         }
-        _ => return Err(format!("{calls}: neither frames nor law nor steps")),
+        _ => return Err(format!("{calls}: no calls that are searched")),
     };
     match (1..=MOST_CALLS).find(|&number| differs(seed, number)) {
         Some(number) => println!("{number}"),

@@ -45,6 +45,10 @@ pub fn command(
     winder::command(&sized(sizes, settings), state, commands)
 }
 
+pub fn convert_single(bits: u32, value: &mut i32) -> u8 {
+    winder::convert_single(bits, value)
+}
+
 pub fn read(sizes: Sizes, bytes: &[u8], fields: &mut Fields) -> u32 {
     winder::read_frame(sizes.n, sizes.m, bytes, fields)
 }

@@ -1,6 +1,6 @@
-//! Compares frames, law calls and steps of the first implementation, through
-//! its static libraries `winder` and `steps`, with the second implementation
-//! of document 01.
+//! Compares frames, law calls, conversions of readings and steps of the first
+//! implementation, through its static libraries `winder` and `steps`, with the
+//! second implementation of document 01.
 
 #![forbid(unsafe_code)]
 
@@ -15,14 +15,19 @@ mod faults;
 mod first;
 mod frames;
 mod handed_in;
+mod handed_readings;
 mod law;
 mod law_call;
+mod listed_singles;
 // Its shuffle has no use here.
 #[allow(dead_code)]
 #[path = "../../compare/src/prng.rs"]
 mod prng;
 mod reach;
 mod report;
+#[path = "../../compare/src/single_bits.rs"]
+mod single_bits;
+mod singles;
 mod step_areas;
 mod step_counts;
 mod step_tables;
@@ -36,9 +41,11 @@ use std::{env, str::FromStr};
 const USAGE: &str = "usage:
   calls frames COUNT SEED
   calls law COUNT SEED
+  calls singles COUNT SEED
+  calls singles all
   calls steps COUNT SEED
   calls faults SEED
-  calls search frames|law|steps SEED
+  calls search frames|law|singles|steps SEED
 
 The last is for this program's own use, with a fault planted.";
 
@@ -58,6 +65,8 @@ fn run(words: &[&str]) -> Result<(), String> {
     match words {
         ["frames", count, seed] => compare("frames", frames::compare, count, seed),
         ["law", count, seed] => compare("law calls", law::compare, count, seed),
+        ["singles", "all"] => singles::compare_all(),
+        ["singles", count, seed] => compare("single conversions", singles::compare, count, seed),
         ["steps", count, seed] => compare("steps", steps::compare, count, seed),
         ["faults", seed] => faults::table(number(seed)?),
         ["search", calls, seed] => {

@@ -6,7 +6,7 @@ use steps::IGNORED;
 
 use crate::events::Event;
 use crate::report::write_row;
-use crate::step_tables::{DONE, GROUNDS, ODD};
+use crate::step_tables::{StepTest, DONE, GROUNDS, ODD, READINGS};
 use crate::steps::{Call, Left};
 
 /// The events, in the order of `Counts::answers`.
@@ -25,6 +25,7 @@ pub struct Counts {
     /// By event and answer; ignored is at place 13.
     answers: [[usize; 14]; 4],
     done: [usize; DONE.len()],
+    readings: [usize; READINGS.len()],
     /// Ignored on this ground and no other.
     grounds: [usize; GROUNDS.len()],
     odd: [usize; ODD.len()],
@@ -52,10 +53,9 @@ impl Counts {
             self.count_ground(call);
         }
         if left.answer == 0 {
-            for (count, (_, test)) in self.done.iter_mut().zip(&DONE) {
-                *count += usize::from(test(call, left));
-            }
+            count_each(&mut self.done, &DONE, call, left);
         }
+        count_each(&mut self.readings, &READINGS, call, left);
     }
 
     fn count_ground(&mut self, call: &Call) {
@@ -72,9 +72,16 @@ impl Counts {
     pub fn are_everywhere(&self) -> bool {
         let mut events = self.answers.iter().zip(ANSWERS);
         events.all(|(answers, possible)| possible.iter().all(|&answer| answers[answer] > 0))
-            && [&self.done[..], &self.grounds, &self.odd]
+            && [&self.done[..], &self.readings, &self.grounds, &self.odd]
                 .iter()
                 .all(|counts| counts.iter().all(|&count| count > 0))
+    }
+}
+
+/// Counts a step in each row of a table that it is of.
+fn count_each(counts: &mut [usize], rows: &[(&str, StepTest)], call: &Call, left: &Left) {
+    for (count, (_, test)) in counts.iter_mut().zip(rows) {
+        *count += usize::from(test(call, left));
     }
 }
 
@@ -96,6 +103,10 @@ impl fmt::Display for Counts {
         }
         writeln!(out, "what was done")?;
         for ((name, _), &count) in DONE.iter().zip(&self.done) {
+            write_row(out, &format!("  {name}"), count)?;
+        }
+        writeln!(out, "readings of ticks")?;
+        for ((name, _), &count) in READINGS.iter().zip(&self.readings) {
             write_row(out, &format!("  {name}"), count)?;
         }
         writeln!(out, "ignored on one ground alone")?;

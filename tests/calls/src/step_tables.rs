@@ -1,6 +1,8 @@
 //! What is counted of compared steps. This only counts: nothing is compared
 //! with it.
 
+use std::ops::Range;
+
 use second::frame::{self, Frame, ACK, DECIDE, ESTIMATE, PROPOSE};
 use second::replica::coordinator;
 use steps::Held;
@@ -8,12 +10,13 @@ use steps::Held;
 use crate::damage::Damage;
 use crate::events::Event;
 use crate::handed_in::Fit;
+use crate::handed_readings::{Handed, COUNT, SINGLE};
 use crate::steps::{Call, Left};
 
-pub type DoneTest = fn(&Call, &Left) -> bool;
+pub type StepTest = fn(&Call, &Left) -> bool;
 
 /// What steps that were done came to.
-pub const DONE: [(&str, DoneTest); 13] = [
+pub const DONE: [(&str, StepTest); 13] = [
     ("ticks: first", |call, _| is_tick(call) && period(call) == 0),
     ("ticks: proposed", |call, left| {
         is_tick(call) && sent(left) == PROPOSE
@@ -46,6 +49,31 @@ pub const DONE: [(&str, DoneTest); 13] = [
     }),
     ("Estimate: another taken over", |call, left| {
         took_over(call, left) && !is_arriving(call, &left.held)
+    }),
+];
+
+/// What ticks came to by the kinds of their readings.
+pub const READINGS: [(&str, StepTest); 7] = [
+    ("done, a count taken", |call, left| {
+        is_done(left) && below(call).any(|reading| reading.kind == COUNT)
+    }),
+    ("done, a single taken", |call, left| {
+        is_done(left) && below(call).any(Handed::is_present_single)
+    }),
+    ("done, a single counts as missing", |call, left| {
+        is_done(left) && below(call).any(Handed::is_missing_single)
+    }),
+    ("done, the same at or above m", |call, left| {
+        is_done(left) && beyond(call).any(Handed::is_missing_single)
+    }),
+    ("done, a kind of no meaning", |call, left| {
+        is_done(left) && below(call).any(|reading| reading.kind > SINGLE)
+    }),
+    ("refused by 7 for counts alone", |call, left| {
+        left.answer == 7 && !beyond(call).any(Handed::is_present_single)
+    }),
+    ("refused by 7 for singles alone", |call, left| {
+        left.answer == 7 && !beyond(call).any(|reading| reading.kind == COUNT)
     }),
 ];
 
@@ -142,6 +170,28 @@ fn view(call: &Call) -> u32 {
 
 fn has_best(call: &Call) -> bool {
     held(call).marks[2] != 0
+}
+
+fn is_done(left: &Left) -> bool {
+    left.answer == 0
+}
+
+/// What a tick was handed, at the places from one to another; nothing for
+/// other events.
+fn handed(call: &Call, places: Range<usize>) -> impl Iterator<Item = Handed> + '_ {
+    let readings = match &call.event {
+        Event::Tick { readings } => &readings[places],
+        _ => &[],
+    };
+    readings.iter().copied()
+}
+
+fn below(call: &Call) -> impl Iterator<Item = Handed> + '_ {
+    handed(call, 0..call.handed_in.fit.m)
+}
+
+fn beyond(call: &Call) -> impl Iterator<Item = Handed> + '_ {
+    handed(call, call.handed_in.fit.m..4)
 }
 
 fn is_tick(call: &Call) -> bool {

@@ -3,9 +3,10 @@
 use second::replica::{Answer, Areas, Replica};
 use steps::{Held, Lent, IGNORED};
 
-use crate::areas::{row, PATTERN};
+use crate::areas::PATTERN;
 use crate::events::{self, Event};
 use crate::handed_in::{self, HandedIn};
+use crate::handed_readings::row;
 use crate::prng::Prng;
 use crate::report::alike;
 use crate::step_areas::{held_of, replica_of, settings_of};
@@ -105,7 +106,11 @@ fn first(call: &Call) -> Left {
     let held = &mut left.held;
     left.answer = match &call.event {
         Event::Make => steps::make(&settings, held),
-        Event::Tick { present, values } => steps::tick(&settings, held, present, values, lent),
+        Event::Tick { readings } => {
+            let kinds = readings.map(|reading| reading.kind);
+            let bits = readings.map(|reading| reading.bits);
+            steps::tick(&settings, held, &kinds, &bits, lent)
+        }
         Event::GiveUp => steps::give_up(&settings, held, lent),
         Event::Arrive { bytes, .. } => steps::arrive(&settings, held, bytes, lent),
     };
@@ -132,7 +137,7 @@ fn second(call: &Call) -> Result<Left, String> {
     };
     let (replica, step) = match &call.event {
         Event::Make => made(handed_in),
-        Event::Tick { present, values } => handed_in.tick(&row(present, values), areas),
+        Event::Tick { readings } => handed_in.tick(&row(readings), areas),
         Event::GiveUp => handed_in.give_up(areas),
         Event::Arrive { bytes, .. } => handed_in.arrive(bytes, areas),
     };

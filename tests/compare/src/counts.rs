@@ -2,6 +2,10 @@
 
 use std::fmt;
 
+use second::reading::Reading;
+
+use crate::single_bits::{converted, CLASSES};
+
 #[derive(Clone, Debug, Default, PartialEq, Eq)]
 pub struct Counts {
     pub bench_scripts: usize,
@@ -10,6 +14,14 @@ pub struct Counts {
     pub spoiled_scripts: usize,
     pub lines: usize,
     pub ticks: usize,
+    /// Readings handed to ticks, by kind.
+    pub handed_counts: usize,
+    pub handed_missing: usize,
+    pub handed_singles: usize,
+    /// Singles that count as missing.
+    pub missing_singles: usize,
+    /// Singles, by their class.
+    pub single_classes: [usize; CLASSES.len()],
     pub give_ups: usize,
     pub deliveries: usize,
     pub proposals_after_estimates: usize,
@@ -36,12 +48,44 @@ pub struct Counts {
 }
 
 impl Counts {
+    pub fn count_reading(&mut self, reading: &Reading) {
+        match reading {
+            Reading::Count(_) => self.handed_counts += 1,
+            Reading::Newtons(single) => self.count_single(single.to_bits()),
+            Reading::Missing => self.handed_missing += 1,
+        }
+    }
+
+    fn count_single(&mut self, bits: u32) {
+        self.handed_singles += 1;
+        self.missing_singles += usize::from(converted(bits).is_none());
+        for (count, (_, test)) in self.single_classes.iter_mut().zip(CLASSES) {
+            *count += usize::from(test(bits));
+        }
+    }
+
     /// Counts what a spoiled first line was answered.
     pub fn refused_first_line(&mut self, output: &[u8]) {
         match output {
             [b'r', digit @ b'1'..=b'4', b'\n'] => self.refused[usize::from(digit - b'0')] += 1,
             _ => self.malformed += 1,
         }
+    }
+
+    fn write_readings(&self, out: &mut fmt::Formatter<'_>) -> fmt::Result {
+        let named = [
+            ("readings: counts", self.handed_counts),
+            ("readings: missing", self.handed_missing),
+            ("readings: singles", self.handed_singles),
+            ("  that count as missing", self.missing_singles),
+        ];
+        for (name, count) in named {
+            writeln!(out, "{name:<34}{count:>9}")?;
+        }
+        for ((name, _), count) in CLASSES.iter().zip(self.single_classes) {
+            writeln!(out, "  {name:<32}{count:>9}")?;
+        }
+        Ok(())
     }
 }
 
@@ -73,6 +117,7 @@ impl fmt::Display for Counts {
         for (name, count) in named {
             writeln!(out, "{name:<34}{count:>9}")?;
         }
+        self.write_readings(out)?;
         for (number, count) in self.refused.iter().enumerate().skip(1) {
             writeln!(
                 out,

@@ -11,6 +11,7 @@ use std::collections::{BTreeMap, HashSet};
 use second::law::{self, Readings, Settings, State};
 
 use crate::group::Group;
+use crate::single_bits;
 
 /// With more states than this the search forgets them all and goes on from
 /// the next decided state that shows.
@@ -72,9 +73,11 @@ impl Seen {
     /// "Row k is one that some box was handed for period k: by that box's
     /// k-th tick not refused."
     fn take_tick(&mut self, known: &mut BoxSeen, line: &[u8], state: &[i32]) -> Result<(), String> {
-        let Some(row) = handed_row(line) else {
+        let Some(words) = line.strip_prefix(b"T ") else {
             return Ok(());
         };
+        let shown = || format!("a tick {:?}", String::from_utf8_lossy(line));
+        let row = handed_row(words).ok_or_else(shown)?;
         known.ticks += 1;
         let rows = self.rows.entry(known.ticks).or_default();
         if !rows.contains(&row) {
@@ -178,17 +181,38 @@ fn values(field: &str) -> Option<Vec<i32>> {
     field.split(',').map(|word| word.parse().ok()).collect()
 }
 
-/// The row in a tick's line; none for other lines.
-fn handed_row(line: &[u8]) -> Option<Readings> {
-    let words = std::str::from_utf8(line).ok()?.strip_prefix("T ")?;
+/// The row of a tick, from its box number on. "In the run of demand 3 a
+/// reading means its converted value."
+fn handed_row(words: &[u8]) -> Option<Readings> {
+    let words = std::str::from_utf8(words).ok()?;
     let mut row = Readings::default();
     for (j, word) in words.split(' ').skip(1).enumerate() {
-        if word != "-" {
-            *row.values.get_mut(j)? = word.parse().ok()?;
+        let place = row.values.get_mut(j)?;
+        if let Some(value) = reading(word)? {
+            *place = value;
             row.marks |= 1 << j;
         }
     }
     Some(row)
+}
+
+/// What a word stands for: a value, or a reading that is missing. None where
+/// it is no reading's.
+fn reading(word: &str) -> Option<Option<i32>> {
+    match word.as_bytes() {
+        b"-" => Some(None),
+        [b'f', digits @ ..] => bits(digits).map(single_bits::converted),
+        _ => word.parse().ok().map(Some),
+    }
+}
+
+/// Eight digits of 0 to 9 and a to f, the highest first.
+fn bits(digits: &[u8]) -> Option<u32> {
+    let is_digit = |digit: &u8| matches!(digit, b'0'..=b'9' | b'a'..=b'f');
+    if digits.len() != 8 || !digits.iter().all(is_digit) {
+        return None;
+    }
+    u32::from_str_radix(std::str::from_utf8(digits).ok()?, 16).ok()
 }
 
 #[cfg(test)]
@@ -209,8 +233,17 @@ mod tests {
                          9 1 ok 2 0 0 2 50 9 29\n";
 
     fn checked(output: &str) -> Result<Checked, String> {
-        let lines: Vec<Vec<u8>> = LINES.lines().map(|line| line.as_bytes().to_vec()).collect();
+        checked_with(LINES, output)
+    }
+
+    fn checked_with(lines: &str, output: &str) -> Result<Checked, String> {
+        let lines: Vec<Vec<u8>> = lines.lines().map(|line| line.as_bytes().to_vec()).collect();
         check(&Group::bench(), &lines, output.as_bytes())
+    }
+
+    /// The lines with other readings in their first.
+    fn lines_from(word: &str) -> String {
+        LINES.replacen("100", word, 1)
     }
 
     fn refused(from: &str, to: &str) -> String {
@@ -256,6 +289,35 @@ mod tests {
         let shown = RIGHT.replace(" 50\n", " 51\n").replace("2 50 ", "2 51 ");
         let shown = shown.replace("0 1 50 ", "0 1 51 ");
         assert!(checked(&shown).unwrap_err().contains("period 2: no choice"));
+    }
+
+    #[test]
+    fn a_single_is_taken_converted() {
+        for units in [100.0, 100.5, 100.99] {
+            let word = format!("f{:08x}", (units / 65_536.0_f32).to_bits());
+            assert!(checked_with(&lines_from(&word), RIGHT).is_ok(), "{word}");
+        }
+        // 99 of these, or 102, or none: then period 1 has no row for 50.
+        for word in ["f3ac7ffff", "f3acc0000", "f7fc00000", "f47000000", "-"] {
+            let answer = checked_with(&lines_from(word), RIGHT).unwrap_err();
+            assert!(answer.contains("period 1: no choice"), "{word} {answer}");
+        }
+    }
+
+    #[test]
+    fn a_tick_that_was_taken_must_be_well_formed() {
+        let words = [
+            "f",
+            "f3ac8000",
+            "f3AC80000",
+            "f+3ac8000",
+            "f3ac800000",
+            "1 f3ac80000 2 3 4",
+        ];
+        for word in words {
+            let answer = checked_with(&lines_from(word), RIGHT).unwrap_err();
+            assert!(answer.contains("a tick"), "{word} {answer}");
+        }
     }
 
     #[test]

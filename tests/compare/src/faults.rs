@@ -1,6 +1,6 @@
 //! Whether the comparison finds faults planted on purpose, and how soon.
 
-use second::fault::NAMES;
+use second::fault::{Fault, NAMES, READING_NAMES};
 
 use crate::counts::Counts;
 use crate::run::{library, Programs};
@@ -21,9 +21,9 @@ struct Found {
 /// Prints the table; gives whether every fault was found by its output.
 pub fn table(seed: u64, second: impl Fn() -> Result<Programs, String>) -> Result<bool, String> {
     let (output, demand3, own) = ("outputs differ", "demand 3", "on own scripts");
-    println!("{:<20}{output:>15}{demand3:>15}{own:>17}", "fault");
+    println!("{:<26}{output:>15}{demand3:>15}{own:>17}", "fault");
     let mut all_found = true;
-    for (name, _) in NAMES {
+    for (name, _) in NAMES.into_iter().chain(READING_NAMES).filter(shows) {
         let mut found = look_for(seed, &second()?.with_fault(name))?;
         found.by_own_scripts = run::own_search(seed, name)?;
         let shown = |first: Option<usize>| match first {
@@ -32,10 +32,16 @@ pub fn table(seed: u64, second: impl Fn() -> Result<Programs, String>) -> Result
         };
         let (output, demand3) = (shown(found.by_output), shown(found.by_demand3));
         let own = shown(found.by_own_scripts);
-        println!("{name:<20}{output:>15}{demand3:>15}{own:>17}");
+        println!("{name:<26}{output:>15}{demand3:>15}{own:>17}");
         all_found &= found.by_output.is_some();
     }
     Ok(all_found)
+}
+
+/// Whether scripts can show a fault: no script has a word for a reading at or
+/// above m.
+fn shows((_, fault): &(&str, Fault)) -> bool {
+    *fault != Fault::MarksUnconverted
 }
 
 fn look_for(seed: u64, faulty: &Programs) -> Result<Found, String> {

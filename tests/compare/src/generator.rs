@@ -507,7 +507,25 @@ mod tests {
             counts.refused[9],
             counts.refused[10],
         ];
-        assert!(cases.iter().all(|&count| count >= 10), "{counts}");
+        let readings = [
+            counts.handed_counts,
+            counts.handed_missing,
+            counts.handed_singles,
+            counts.missing_singles,
+        ];
+        let mut cases = cases.iter().chain(&readings).chain(&counts.single_classes);
+        assert!(cases.all(|&count| count >= 10), "{counts}");
+    }
+
+    #[test]
+    fn only_rig_scripts_have_singles() {
+        let mut met = [false; 2];
+        for number in 1..=100 {
+            let mut counts = Counts::default();
+            let script = script(3, number, &mut counts);
+            met[usize::from(script.is_rig)] |= counts.handed_singles > 0;
+        }
+        assert_eq!(met, [false, true]);
     }
 
     #[test]

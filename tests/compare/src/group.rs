@@ -9,10 +9,25 @@ use crate::prng::Prng;
 /// 1 in the units of the coefficients.
 const ONE: i32 = 65_536;
 
+/// Words that are no number within i32; a single is one of them.
+const NO_NUMBERS: [&str; 9] = [
+    "2147483648",
+    "-0",
+    "01",
+    "+1",
+    "1 ",
+    "1\r",
+    "-",
+    "x",
+    "f00000000",
+];
+
 #[derive(Clone, Copy)]
 pub struct Group {
     pub boxes: u8,
     pub settings: Settings,
+    /// Whether a reading may be a single: in scripts for the rig alone.
+    pub takes_singles: bool,
 }
 
 impl Group {
@@ -20,6 +35,7 @@ impl Group {
         Group {
             boxes: 3,
             settings: bench_settings(),
+            takes_singles: false,
         }
     }
 
@@ -38,6 +54,7 @@ impl Group {
         Group {
             boxes: prng.between(3, 9) as u8,
             settings,
+            takes_singles: true,
         }
     }
 
@@ -74,7 +91,7 @@ impl Group {
             7 => words.push("0"),
             8 => words[prng.pick(&[1, 2, 3, 4])] = prng.pick(&["256", "-1", "+3", "03", ""]),
             9 => words[0] = prng.pick(&["Rig", "rig ", "", "bench", " rig"]),
-            10 => words[last] = prng.pick(&["2147483648", "-0", "01", "+1", "1 ", "1\r", "-", "x"]),
+            10 => words[last] = prng.pick(&NO_NUMBERS),
             11 => words[coefficient] = prng.pick(&["-2147483649", "00", "", "0x1"]),
             12 => return vec![b'r', b'i', b'g', b' ', 0xFF],
             _ => return Vec::new(),

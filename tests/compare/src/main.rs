@@ -12,6 +12,7 @@ mod malformed;
 mod prng;
 mod run;
 mod scripts;
+mod single_bits;
 mod writer;
 
 use std::io::{self, BufWriter, Write};

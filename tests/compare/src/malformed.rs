@@ -6,20 +6,55 @@ use crate::prng::Prng;
 pub struct Place<'a> {
     pub boxes: u8,
     pub readings: u8,
+    /// Whether a well-formed single is no malformed word.
+    pub takes_singles: bool,
     /// The malformed line's own number.
     pub line: usize,
     /// Earlier lines that sent no frame.
     pub unsent: &'a [usize],
 }
 
+/// Words that resemble a single's and are no reading in any script.
+const NO_SINGLES: [&str; 16] = [
+    "f",
+    "f3fc0000",
+    "f3fc000000",
+    "F3fc00000",
+    "f3FC00000",
+    "f3fc0000A",
+    "f3fc0000g",
+    "fg3fc0000",
+    "-f3fc00000",
+    "+f3fc00000",
+    "f-3fc0000",
+    "f+3fc00000",
+    "ff3fc00000",
+    "3fc00000",
+    "f3fc0000-",
+    "f1.5",
+];
+
+/// Well-formed singles, which only the rig takes.
+const SINGLES: [&str; 5] = [
+    "f3fc00000",
+    "f00000000",
+    "f80000001",
+    "f7fc00000",
+    "fffffffff",
+];
+
 pub fn line(prng: &mut Prng, place: &Place) -> Vec<u8> {
     let number = prng.between(1, place.boxes.into()).to_string();
-    let readings = vec!["7"; place.readings.into()];
+    let reading = match place.takes_singles {
+        true => prng.pick(&["7", "f3fc00000"]),
+        false => "7",
+    };
+    let readings = vec![reading; place.readings.into()];
     let tick = |number: &str| format!("T {number} {}", readings.join(" "));
     let good = [tick(&number), format!("G {number}")];
     let good = &good[prng.below(2)];
     let later = place.line + 1 + prng.below(60);
-    let text = match prng.below(24) {
+    let text = match prng.below(26) {
         0 => tick(&format!("0{number}")),
         1 => tick(&format!("+{number}")),
         2 => tick("0"),
@@ -45,12 +80,29 @@ pub fn line(prng: &mut Prng, place: &Place) -> Vec<u8> {
         20 => format!("D {number} {later}"),
         21 => format!(
             "D {number} {}",
-            prng.pick(&["-1", "-", "+1", "99999999999999999999"])
+            prng.pick(&["-1", "-", "+1", "99999999999999999999", "f00000001"])
         ),
-        22 if !place.unsent.is_empty() => format!("D {number} {}", prng.pick(place.unsent)),
+        22 => with_last(&tick(&number), no_single(prng, place.takes_singles)),
+        23 => with_first(&tick(&number), no_single(prng, place.takes_singles)),
+        24 if !place.unsent.is_empty() => format!("D {number} {}", prng.pick(place.unsent)),
         _ => return [good.as_bytes(), &[prng.pick(&[0x80, 0xB1, 0xFF])]].concat(),
     };
     text.into_bytes()
+}
+
+/// A word with something of a single that is malformed.
+fn no_single(prng: &mut Prng, takes_singles: bool) -> &'static str {
+    match !takes_singles && prng.chance(50) {
+        true => prng.pick(&SINGLES),
+        false => prng.pick(&NO_SINGLES),
+    }
+}
+
+/// Another first reading.
+fn with_first(line: &str, word: &str) -> String {
+    let mut words: Vec<&str> = line.split(' ').collect();
+    words[2] = word;
+    words.join(" ")
 }
 
 fn with_last(line: &str, word: &str) -> String {
@@ -62,23 +114,47 @@ fn with_last(line: &str, word: &str) -> String {
 mod tests {
     use super::*;
 
+    fn played(takes_singles: bool, script: &[u8]) -> String {
+        let first: &[u8] = b"rig 3 1 1 1 65536 32768 65536 65536 -9 9 0\n";
+        let mut output = Vec::new();
+        match takes_singles {
+            true => second::script::rig(&[first, script].concat()[..], &mut output),
+            false => second::script::bench(script, &mut output),
+        }
+        .unwrap();
+        String::from_utf8(output).unwrap()
+    }
+
     #[test]
     fn each_is_answered_by_bad() {
         let mut prng = Prng::new(2);
-        let place = Place {
-            boxes: 3,
-            readings: 1,
-            line: 2,
-            unsent: &[1],
-        };
-        for _ in 0..2_000 {
-            let script = [b"T 2 5\n".to_vec(), line(&mut prng, &place)].concat();
-            let mut output = Vec::new();
-            second::script::bench(&script[..], &mut output).unwrap();
-            // An empty last line is none at all.
-            let output = String::from_utf8(output).unwrap();
-            let bad = output.ends_with("\n2 bad\n") || script.ends_with(b"5\n");
-            assert!(bad, "{:?}", String::from_utf8_lossy(&script));
+        for takes_singles in [false, true] {
+            let place = Place {
+                boxes: 3,
+                readings: 1,
+                takes_singles,
+                line: 2,
+                unsent: &[1],
+            };
+            for _ in 0..2_000 {
+                let script = [b"T 2 5\n".to_vec(), line(&mut prng, &place)].concat();
+                let output = played(takes_singles, &script);
+                // An empty last line is none at all.
+                let bad = output.ends_with("\n2 bad\n") || script.ends_with(b"5\n");
+                assert!(bad, "{:?}", String::from_utf8_lossy(&script));
+            }
+        }
+    }
+
+    #[test]
+    fn singles_are_malformed_on_the_bench_alone() {
+        for word in SINGLES.iter().chain(&NO_SINGLES) {
+            for takes_singles in [false, true] {
+                let output = played(takes_singles, format!("T 2 {word}\n").as_bytes());
+                let taken = takes_singles && SINGLES.contains(word);
+                assert_eq!(output.contains(" ok "), taken, "{word}");
+                assert_eq!(output.ends_with("\n1 bad\n"), !taken, "{word}");
+            }
         }
     }
 }

@@ -5,13 +5,15 @@
 use std::collections::VecDeque;
 
 use second::frame::{self, Frame, ACK, COMMAND_AREA, DECIDE, ESTIMATE, FRAME_AREA};
-use second::law::Readings;
+use second::law::MAX_READINGS;
+use second::reading::{Reading, Row};
 use second::replica::{coordinator, majority, Answer, Areas, Estimate, Heard, Replica, Step};
 
 use crate::counts::Counts;
 use crate::group::Group;
 use crate::malformed;
 use crate::prng::Prng;
+use crate::single_bits;
 
 /// How often, of a hundred lines, something out of order follows.
 #[derive(Clone, Copy, Default)]
@@ -29,7 +31,10 @@ pub struct Rows {
     /// search of the demand-3 check.
     pub variety: usize,
     pub largest: i32,
+    /// Of a hundred places, those without a reading.
     pub absent: usize,
+    /// Of a hundred readings, those that are singles.
+    pub singles: usize,
 }
 
 struct Sent {
@@ -38,6 +43,15 @@ struct Sent {
     bytes: Vec<u8>,
     /// The places that it was delivered to.
     delivered: Vec<usize>,
+}
+
+/// A reading as a script has it.
+fn word(reading: &Reading) -> String {
+    match reading {
+        Reading::Count(count) => count.to_string(),
+        Reading::Newtons(single) => format!("f{:08x}", single.to_bits()),
+        Reading::Missing => "-".to_string(),
+    }
 }
 
 /// The boxes of a script stand at places from 0; their numbers are one more.
@@ -55,7 +69,7 @@ pub struct Writer<'a> {
     disturbances: Disturbances,
     rows: Rows,
     /// The rows made up to now, by period.
-    handed: Vec<Vec<Readings>>,
+    handed: Vec<Vec<Row>>,
     sent: Vec<Sent>,
     unsent: Vec<usize>,
     decided: Vec<u32>,
@@ -77,6 +91,10 @@ impl<'a> Writer<'a> {
             variety: prng.pick(&[2, 2, 3, 3, 4, group.boxes.into()]),
             largest: prng.pick(&[200, 100_000, 100_000, 100_000, i32::MAX]),
             absent: prng.pick(&[0, 10, 30]),
+            singles: match group.takes_singles {
+                true => prng.pick(&[0, 20, 50, 50, 100]),
+                false => 0,
+            },
         };
         Writer {
             prng,
@@ -148,16 +166,14 @@ impl<'a> Writer<'a> {
         if self.is_full() || self.stopped[place] {
             return;
         }
-        let readings = self.row_for(self.replicas[place].period);
+        let row = self.row_for(self.replicas[place].period);
         self.counts.ticks += 1;
         let mut text = format!("T {}", place + 1);
-        for j in 0..usize::from(self.group.settings.m) {
-            text += &match readings.is_present(j) {
-                true => format!(" {}", readings.values[j]),
-                false => " -".to_string(),
-            };
+        for reading in &row[..self.group.settings.m.into()] {
+            self.counts.count_reading(reading);
+            text += &format!(" {}", word(reading));
         }
-        self.run(place, text, |replica, areas| replica.tick(&readings, areas));
+        self.run(place, text, |replica, areas| replica.tick(&row, areas));
         self.disturb();
     }
 
@@ -198,6 +214,7 @@ impl<'a> Writer<'a> {
         let place = malformed::Place {
             boxes: self.group.boxes,
             readings: self.group.settings.m,
+            takes_singles: self.group.takes_singles,
             line: self.lines.len() + 1,
             unsent: &self.unsent,
         };
@@ -260,7 +277,7 @@ impl<'a> Writer<'a> {
     }
 
     /// One of the rows made for the period after this one.
-    fn row_for(&mut self, period: u32) -> Readings {
+    fn row_for(&mut self, period: u32) -> Row {
         let place = period as usize;
         while self.handed.len() <= place {
             let rows = (0..self.rows.variety).map(|_| self.new_row()).collect();
@@ -269,19 +286,38 @@ impl<'a> Writer<'a> {
         self.prng.pick(&self.handed[place])
     }
 
-    fn new_row(&mut self) -> Readings {
-        let mut row = Readings::default();
-        for j in 0..usize::from(self.group.settings.m) {
-            if self.prng.chance(self.rows.absent) {
-                continue;
+    /// Missing at and above m, where a script has no word for it.
+    fn new_row(&mut self) -> Row {
+        let mut row = [Reading::Missing; MAX_READINGS];
+        for reading in &mut row[..self.group.settings.m.into()] {
+            if !self.prng.chance(self.rows.absent) {
+                *reading = self.new_reading();
             }
-            row.marks |= 1 << j;
-            row.values[j] = match self.prng.below(50) {
-                0 => self.prng.pick(&[i32::MIN, i32::MAX, 0, -1]),
-                _ => self.prng.between(-self.rows.largest, self.rows.largest),
-            };
         }
         row
+    }
+
+    fn new_reading(&mut self) -> Reading {
+        if self.prng.chance(self.rows.singles) {
+            return Reading::Newtons(f32::from_bits(self.new_single()));
+        }
+        Reading::Count(match self.prng.below(50) {
+            0 => self.prng.pick(&[i32::MIN, i32::MAX, 0, -1]),
+            _ => self.value(),
+        })
+    }
+
+    /// Mostly of a count's size, for the sake of the demand-3 check.
+    fn new_single(&mut self) -> u32 {
+        let value = self.value();
+        match self.prng.below(8) {
+            0 => single_bits::special(self.prng),
+            _ => single_bits::near(self.prng, value),
+        }
+    }
+
+    fn value(&mut self) -> i32 {
+        self.prng.between(-self.rows.largest, self.rows.largest)
     }
 
     // Lines out of order.

@@ -28,11 +28,14 @@ fn exports() -> Vec<Function> {
     functions
 }
 
-/// The prototype of a function in the header, to its semicolon.
+/// The prototype of a function in the header, from its result to its
+/// semicolon.
 fn prototype(name: &str) -> String {
     let header = header();
-    let start = header.find(&format!("uint32_t {name}("));
-    let from = &header[start.expect("a prototype")..];
+    let results = ["uint32_t", "uint8_t"];
+    let mut starts = results.iter().map(|result| format!("\n{result} {name}("));
+    let start = starts.find_map(|start| header.find(&start));
+    let from = &header[start.expect("a prototype") + 1..];
     let end = from.find(';').expect("the prototype's end");
     from[..=end].to_string()
 }
@@ -58,7 +61,7 @@ fn is_found(name: &str, old: &str, new: &str) {
 #[test]
 fn the_header_declares_what_the_crate_exports() {
     let exports = exports();
-    assert_eq!(exports.len(), 6);
+    assert_eq!(exports.len(), 7);
     let declared = declared(&header()).expect("prototypes");
     assert_eq!(
         differences(&exports, &declared.functions),
@@ -205,6 +208,11 @@ fn exchanged_parameters_are_found() {
         "size_t bytes_length,\n    const uint8_t *bytes",
     );
     is_found("winder_read_frame", bytes, exchanged);
+    let (conversion, exchanged) = (
+        "uint32_t bits, int32_t *value",
+        "int32_t *value, uint32_t bits",
+    );
+    is_found("winder_convert_single", conversion, exchanged);
 }
 
 #[test]
@@ -229,6 +237,7 @@ fn another_size_is_found() {
         "*kind_and_sender",
     );
     is_found("winder_write_frame", "*length", "length[1]");
+    is_found("winder_convert_single", "*value", "value[4]");
 }
 
 #[test]
@@ -245,6 +254,7 @@ fn a_missing_const_is_found() {
 fn an_added_const_is_found() {
     is_found("winder_read_frame", "int32_t state", "const int32_t state");
     is_found("winder_write_frame", "uint8_t *area", "const uint8_t *area");
+    is_found("winder_convert_single", "int32_t *v", "const int32_t *v");
 }
 
 #[test]
@@ -252,6 +262,8 @@ fn another_type_is_found() {
     is_found("winder_read_frame", "uint32_t counters", "int32_t counters");
     is_found("winder_read_frame", "size_t n", "uint32_t n");
     is_found("winder_update", "uint32_t winder", "int32_t winder");
+    is_found("winder_convert_single", "uint8_t winder", "uint32_t winder");
+    is_found("winder_convert_single", "uint32_t bits", "int32_t bits");
 }
 
 #[test]

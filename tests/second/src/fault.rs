@@ -98,6 +98,24 @@ pub enum Fault {
     BasePeriodKept,
     /// Boxes above N are counted.
     BoxesAboveCounted,
+    /// A single is rounded toward zero.
+    SingleTowardZero,
+    /// A negative subnormal gives 0, not −1.
+    NegativeSubnormalZero,
+    /// 32768.0 N is taken, as 2147483647.
+    AboveRangeTaken,
+    /// −32768.0 N counts as missing.
+    LowestMissing,
+    /// A single's exponent is read one too large.
+    ExponentOffByOne,
+    /// An infinity is taken, as the end of i32 on its side.
+    InfinityTaken,
+    /// A NaN is taken, as 0.
+    NanTaken,
+    /// A missing reading is converted to 0, and present.
+    MissingPresent,
+    /// 7 looks at the readings as they are handed, not converted.
+    MarksUnconverted,
 }
 
 /// The faults that scripts must find, with their names in the environment
@@ -162,6 +180,19 @@ pub const STEP_NAMES: [(&str, Fault); 11] = [
     ("boxes_above_counted", Fault::BoxesAboveCounted),
 ];
 
+/// The faults that conversions of readings and ticks with them must find.
+pub const READING_NAMES: [(&str, Fault); 9] = [
+    ("single_toward_zero", Fault::SingleTowardZero),
+    ("negative_subnormal_zero", Fault::NegativeSubnormalZero),
+    ("above_range_taken", Fault::AboveRangeTaken),
+    ("lowest_missing", Fault::LowestMissing),
+    ("exponent_off_by_one", Fault::ExponentOffByOne),
+    ("infinity_taken", Fault::InfinityTaken),
+    ("nan_taken", Fault::NanTaken),
+    ("missing_present", Fault::MissingPresent),
+    ("marks_unconverted", Fault::MarksUnconverted),
+];
+
 static PLANTED: OnceLock<Fault> = OnceLock::new();
 
 /// Plants the fault that the environment names. Unset or empty: none. A name
@@ -172,7 +203,7 @@ pub fn plant_from_environment() -> Result<(), String> {
         return Ok(());
     }
     let of_calls = LAW_NAMES.iter().chain(&FRAME_NAMES).chain(&STEP_NAMES);
-    let mut known = NAMES.iter().chain(of_calls);
+    let mut known = NAMES.iter().chain(of_calls).chain(&READING_NAMES);
     let (_, fault) = known
         .find(|(known, _)| name == *known)
         .ok_or_else(|| format!("{VARIABLE}: no fault named {name:?}"))?;

@@ -1,14 +1,17 @@
 //! A second, independent implementation of document 01, "A SCRaM replica
-//! group for a winder's tension controller".
+//! group for a winder's tension controller", with change request L1 of
+//! document 02, "Readings as the transmitters send them".
 //!
-//! Comments in quotation marks are document 01's own words; "readings" names
-//! the paper that settles where document 01 allows two readings.
+//! Comments in quotation marks are document 01's own words, or document 02's
+//! where they name it; "readings" and "changes" name the papers that settle
+//! where document 01 and document 02 allow two readings.
 
 #![forbid(unsafe_code)]
 
 pub mod fault;
 pub mod frame;
 pub mod law;
+pub mod reading;
 pub mod refusal;
 pub mod replica;
 pub mod script;

@@ -18,7 +18,8 @@ pub enum Refusal {
     Areas = 5,
     /// "period already 4,294,967,295"
     LastPeriod = 6,
-    /// "a present mark at or above m"
+    /// "a present mark at or above m"; document 02: "7 looks at them
+    /// converted"
     Marks = 7,
     /// "length, kind, part count, byte 3, pairs, marks or absent values not as above"
     Form = 8,

@@ -1,9 +1,11 @@
 //! Document 01, "What a replica holds", "Events" and "Where each refusal is
-//! made": one replica as a value that takes events.
+//! made": one replica as a value that takes events. Its tick takes readings as
+//! document 02's L1 has them.
 
 use crate::fault::{planted, Fault};
 use crate::frame::{self, Frame, ACK, DECIDE, ESTIMATE, PROPOSE};
 use crate::law::{self, Command, Readings, Settings, State};
+use crate::reading::{self, Row};
 use crate::refusal::Refusal;
 
 /// "Group size N, 3 to 9"
@@ -164,9 +166,16 @@ impl Replica {
         })
     }
 
-    /// "Tick with readings."
-    pub fn tick(self, readings: &Readings, areas: Areas) -> (Replica, Step) {
-        self.step(areas, |replica| replica.on_tick(readings))
+    /// "Tick with readings." Document 02: "The tick takes these, and 7 looks
+    /// at them converted." So the conversion comes before all that looks at
+    /// the row.
+    pub fn tick(self, row: &Row, areas: Areas) -> (Replica, Step) {
+        let mut readings = reading::convert_row(row);
+        if planted(Fault::MarksUnconverted) {
+            // Of marks at or above m, only 7 takes notice.
+            readings.marks |= reading::marks_handed_beyond(row, self.settings.m);
+        }
+        self.step(areas, |replica| replica.on_tick(&readings))
     }
 
     /// "Give up the view."
@@ -519,7 +528,8 @@ impl Replica {
         Ok(())
     }
 
-    /// Refusal 7: "a present mark at or above m".
+    /// Refusal 7: "a present mark at or above m", of the converted row: what
+    /// counts as missing there refuses nothing.
     fn check_marks(&self, readings: &Readings) -> Result<(), Refusal> {
         if readings.has_marks_beyond(self.settings.m) {
             return Err(Refusal::Marks);

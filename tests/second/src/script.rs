@@ -1,11 +1,13 @@
 //! Document 01, "The bench": scripts of events for a group of boxes, read
-//! from lines and answered line by line. `rig` is the same for any group.
+//! from lines and answered line by line. `rig` is the same for any group, and
+//! takes readings as document 02's L1 has them.
 
 use std::io::{self, BufRead, Write};
 use std::ops::RangeInclusive;
 
 use crate::frame::{command_values, COMMAND_AREA, FRAME_AREA};
-use crate::law::{self, Readings, Settings};
+use crate::law::{self, Settings, MAX_READINGS};
+use crate::reading::{Reading, Row};
 use crate::refusal::Refusal;
 use crate::replica::{check_group, Answer, Areas, Replica, Step};
 
@@ -44,7 +46,7 @@ pub fn bench(mut input: impl BufRead, mut output: impl Write) -> io::Result<()> 
 }
 
 /// The program `rig`: the first line names the group, the rest is as the
-/// bench's.
+/// bench's, but that a reading may be a single.
 pub fn rig(mut input: impl BufRead, mut output: impl Write) -> io::Result<()> {
     let first = next_line(&mut input)?.unwrap_or_default();
     match rig_group(&first) {
@@ -75,7 +77,11 @@ fn rig_group(line: &[u8]) -> Result<Group, Unfit> {
     check_group(boxes, 1)?;
     law::check_sizes(n, m, p)?;
     let settings = rig_settings(n, m, p, &mut words).ok_or(Unfit::Bad)?;
-    Ok(Group::new(boxes, settings)?)
+    let group = Group::new(boxes, settings)?;
+    Ok(Group {
+        takes_singles: true,
+        ..group
+    })
 }
 
 /// `rig N n m p`
@@ -146,6 +152,29 @@ fn number(word: &[u8]) -> Option<i64> {
     std::str::from_utf8(word).ok()?.parse().ok()
 }
 
+/// Changes: "`f` and eight digits of 0 to 9 and a to f: the bits of a single,
+/// the highest digit first (`f3fc00000` is 1.5 N)".
+fn single(word: &[u8]) -> Option<f32> {
+    let digits = word.strip_prefix(b"f")?;
+    if digits.len() != 8 {
+        return None;
+    }
+    let mut bits = 0;
+    for &digit in digits {
+        bits = bits << 4 | u32::from(digit_value(digit)?);
+    }
+    Some(f32::from_bits(bits))
+}
+
+/// Changes: "digits of 0 to 9 and a to f", so no capitals.
+fn digit_value(digit: u8) -> Option<u8> {
+    match digit {
+        b'0'..=b'9' => Some(digit - b'0'),
+        b'a'..=b'f' => Some(digit - b'a' + 10),
+        _ => None,
+    }
+}
+
 fn number_in(word: &[u8], range: RangeInclusive<usize>) -> Option<usize> {
     let number = usize::try_from(number(word)?).ok()?;
     range.contains(&number).then_some(number)
@@ -170,7 +199,7 @@ struct Event {
 }
 
 enum What {
-    Tick(Readings),
+    Tick(Row),
     GiveUp,
     Deliver(Vec<u8>),
 }
@@ -180,16 +209,21 @@ enum What {
 struct Group {
     replicas: Vec<Replica>,
     sent: Vec<Option<Vec<u8>>>,
+    /// Whether a reading may be a single: the rig's may, the bench's are as
+    /// they were.
+    takes_singles: bool,
 }
 
 impl Group {
-    /// "fresh replicas whose settings differ in the own number alone"
+    /// "fresh replicas whose settings differ in the own number alone", with
+    /// readings as the bench's.
     fn new(boxes: u8, settings: Settings) -> Result<Group, Refusal> {
         check_group(boxes, 1)?;
         let replicas = (1..=boxes).map(|own| Replica::new(boxes, own, settings));
         Ok(Group {
             replicas: replicas.collect::<Result<_, _>>()?,
             sent: Vec::new(),
+            takes_singles: false,
         })
     }
 
@@ -228,7 +262,7 @@ impl Group {
     fn take(&mut self, event: &Event, areas: Areas) -> Step {
         let replica = self.replicas[event.place];
         let (replica, step) = match &event.what {
-            What::Tick(readings) => replica.tick(readings, areas),
+            What::Tick(row) => replica.tick(row, areas),
             What::GiveUp => replica.give_up(areas),
             What::Deliver(bytes) => replica.arrive(bytes, areas),
         };
@@ -272,7 +306,7 @@ impl Group {
         let letter = words.next()?;
         let place = number_in(words.next()?, 1..=self.replicas.len())? - 1;
         let what = match letter {
-            b"T" => What::Tick(self.parse_readings(&mut words)?),
+            b"T" => What::Tick(self.parse_row(&mut words)?),
             b"G" => What::GiveUp,
             b"D" => What::Deliver(self.sent_frame(words.next()?)?),
             _ => return None,
@@ -280,18 +314,24 @@ impl Group {
         words.next().is_none().then_some(Event { place, what })
     }
 
-    /// One word for each reading, "`-` for absent".
-    fn parse_readings<'a>(&self, words: &mut impl Iterator<Item = &'a [u8]>) -> Option<Readings> {
+    /// One word for each reading below m; a script has none beyond.
+    fn parse_row<'a>(&self, words: &mut impl Iterator<Item = &'a [u8]>) -> Option<Row> {
         let m = self.replicas.first()?.settings.m;
-        let mut readings = Readings::default();
-        for (j, value) in readings.values[..m.into()].iter_mut().enumerate() {
-            let word = words.next()?;
-            if word != b"-" {
-                *value = i32::try_from(number(word)?).ok()?;
-                readings.marks |= 1 << j;
-            }
+        let mut row = [Reading::Missing; MAX_READINGS];
+        for reading in &mut row[..m.into()] {
+            *reading = self.parse_reading(words.next()?)?;
         }
-        Some(readings)
+        Some(row)
+    }
+
+    /// Changes: "a reading is a number, `-`, or `f` and eight digits"; the
+    /// last of these in the rig alone.
+    fn parse_reading(&self, word: &[u8]) -> Option<Reading> {
+        match word {
+            b"-" => Some(Reading::Missing),
+            [b'f', ..] if self.takes_singles => single(word).map(Reading::Newtons),
+            _ => i32::try_from(number(word)?).ok().map(Reading::Count),
+        }
     }
 
     /// The frame that an earlier line sent.
@@ -311,6 +351,33 @@ mod tests {
     use super::*;
 
     const SMALL_RIG: &str = "rig 3 1 1 1 65536 32768 65536 65536 -9 9 7";
+
+    /// Its state becomes the reading before; it stays where that was missing.
+    const FOLLOWING_RIG: &str = "rig 3 1 1 1 65536 65536 65536 65536 -2147483648 2147483647 -3";
+
+    /// Words that resemble a single's but are no reading anywhere.
+    const MALFORMED_SINGLES: [&str; 20] = [
+        "f",
+        "f3fc0000",
+        "f3fc000000",
+        "F3fc00000",
+        "f3FC00000",
+        "f3fc0000g",
+        "-f3fc00000",
+        "f-3fc0000",
+        "f-3fc00000",
+        "f+3fc0000",
+        "f3fc0000-",
+        "f3fc0000`",
+        "f3fc0000:",
+        "f3fc0000/",
+        "ff3fc00000",
+        "0f3fc00000",
+        "3fc00000",
+        "f0x3fc000",
+        "f3fc00000\r",
+        "f３fc０",
+    ];
 
     fn run_bench(input: &[u8]) -> String {
         let mut output = Vec::new();
@@ -411,6 +478,95 @@ mod tests {
         let widest = run_bench(b"T 2 2147483647\nT 3 -2147483648\n");
         let expected = with_header("1 2 ok 1 0 0 0 0 - -\n2 3 ok 1 0 0 0 0 - -\n");
         assert_eq!(widest, expected);
+    }
+
+    #[test]
+    fn singles_are_bad_on_the_bench() {
+        let good = ["f3fc00000", "f00000000", "fffffffff"];
+        for word in good.iter().chain(&MALFORMED_SINGLES) {
+            let output = run_bench(format!("T 1 {word}\n").as_bytes());
+            assert_eq!(output, with_header("1 bad\n"), "{word}");
+        }
+    }
+
+    #[test]
+    fn singles_on_the_rig_are_eight_lower_case_digits() {
+        for word in MALFORMED_SINGLES {
+            let input = format!("{FOLLOWING_RIG}\nT 2 {word}\nT 2 1\n");
+            let expected = "1 bad\n2 2 ok 1 0 0 0 -3 - -\n";
+            assert_eq!(run_rig(input.as_bytes()), with_header(expected), "{word}");
+        }
+        // Where no reading stands a single is bad too.
+        let lines = [
+            "f3fc00000",
+            "T f3fc00000 1",
+            "T 2 f3fc00000 ",
+            "T 2  f3fc00000",
+            "T 2 f3fc00000 1",
+            "T 2 f 3fc00000",
+            "G f3fc00000",
+            "D 2 f00000001",
+        ];
+        for line in lines {
+            let output = run_rig(format!("{FOLLOWING_RIG}\n{line}\n").as_bytes());
+            assert_eq!(output, with_header("1 bad\n"), "{line}");
+        }
+        let settings = "rig 3 1 1 1 1 1 1 1 1 1 f00000000\n";
+        assert_eq!(run_rig(settings.as_bytes()), "bad\n");
+    }
+
+    #[test]
+    fn singles_on_the_rig_are_their_bits() {
+        let cases = [
+            ("f3fc00000", 98_304),
+            ("fbfc00000", -98_304),
+            ("f00000000", 0),
+            ("f80000000", 0),
+            ("f00000001", 0),
+            ("f80000001", -1),
+            ("f46ffffff", 2_147_483_520),
+            ("fc7000000", i32::MIN),
+            ("fb7800000", -1),
+            ("fb7c00000", -2),
+            // All sixteen digits.
+            ("f46cdef01", 1_727_496_320),
+            ("f3ba98752", 339),
+            // As missing.
+            ("f47000000", -3),
+            ("fc7000001", -3),
+            ("f7f800000", -3),
+            ("fff800000", -3),
+            ("f7fc00000", -3),
+            ("fffffffff", -3),
+            ("-", -3),
+            // As a count.
+            ("98304", 98_304),
+            ("-2", -2),
+        ];
+        for (word, state) in cases {
+            let input = format!("{FOLLOWING_RIG}\nT 2 {word}\nT 2 -\n");
+            let expected = format!("1 2 ok 1 0 0 0 -3 - -\n2 2 ok 2 0 0 0 {state} - -\n");
+            assert_eq!(run_rig(input.as_bytes()), with_header(&expected), "{word}");
+        }
+    }
+
+    #[test]
+    fn the_rig_takes_rows_of_mixed_kinds() {
+        let input = "rig 3 3 3 1 \
+                     65536 0 0 0 65536 0 0 0 65536 \
+                     65536 0 0 0 65536 0 0 0 65536 \
+                     65536 0 0 0 65536 0 0 0 65536 \
+                     65536 0 0 -2147483648 2147483647 7 8 9\n\
+                     T 1 f3fc00000 -4 -\nT 2 - f7fc00000 5\nD 2 1\nD 1 3\n\
+                     T 1 f7f800000 fbfc00000 12\nT 1 - - -\nT 1 f3fc00000 -\n";
+        let expected = "1 1 ok 1 0 0 1 7,8,9 1 -\n\
+                        2 2 ok 1 0 0 0 7,8,9 - -\n\
+                        3 2 ok 1 0 0 1 7,8,9 3 -\n\
+                        4 1 ok 1 0 0 1 7,8,9 4 98304\n\
+                        5 1 ok 2 0 0 2 98304,-4,9 5 -\n\
+                        6 1 ok 3 0 0 3 98304,-98304,12 6 -\n\
+                        7 bad\n";
+        assert_eq!(run_rig(input.as_bytes()), with_header(expected));
     }
 
     #[test]

@@ -30,10 +30,14 @@ fn lines(program: &str, fault: &str, input: &str) -> Vec<String> {
 }
 
 /// The fault must show, first on the line given (counted from 1 after the
-/// header), as the row given.
+/// header), as the row given; without the feature it must not.
 fn assert_shows(program: &str, fault: &str, input: &str, line: usize, row: &str) {
     let right = lines(program, "", input);
     let wrong = lines(program, fault, input);
+    if !cfg!(feature = "faults") {
+        assert_eq!(right, wrong, "{fault}");
+        return;
+    }
     assert_eq!(right[..line], wrong[..line], "{fault}");
     assert_ne!(right[line], wrong[line], "{fault}");
     assert_eq!(wrong[line], row, "{fault}");
@@ -116,6 +120,7 @@ fn doubled_ack_shows() {
     assert_shows(RIG, "doubled_ack", &rig_of(4, script), 5, row);
 }
 
+#[cfg(feature = "faults")]
 #[test]
 fn doubled_acks_add_up() {
     // A majority of 9 is 5: the box itself and four Acks, all of box 2.
@@ -202,4 +207,44 @@ fn proposer_not_counted_shows() {
 fn base_period_kept_shows() {
     let row = "3 2 ok 1 0 0 0 0 3 -";
     assert_shows(BENCH, "base_period_kept", EXAMPLE, 3, row);
+}
+
+/// A reading on the rig, then a missing one: the state of the second line is
+/// the reading as converted, or the start where it was missing.
+fn reading_on_the_rig(start: i32, word: &str) -> String {
+    let settings = "1 1 1 65536 65536 65536 65536 -2147483648 2147483647";
+    format!("rig 3 {settings} {start}\nT 2 {word}\nT 2 -\n")
+}
+
+#[test]
+fn faults_of_singles_show() {
+    let cases = [
+        ("single_toward_zero", -3, "fb7c00000", -2, -1),
+        ("negative_subnormal_zero", -3, "f80000001", -1, 0),
+        ("above_range_taken", 0, "f47000000", 0, 2_147_483_647),
+        ("lowest_missing", -3, "fc7000000", -2_147_483_648, -3),
+        ("exponent_off_by_one", -3, "f3fc00000", 98_304, 196_608),
+        ("infinity_taken", 0, "f7f800000", 0, 2_147_483_647),
+        ("infinity_taken", 0, "fff800000", 0, -2_147_483_648),
+        ("nan_taken", -3, "f7fc00000", -3, 0),
+        ("nan_taken", -3, "fff800001", -3, 0),
+    ];
+    for (fault, start, word, right, wrong) in cases {
+        let input = reading_on_the_rig(start, word);
+        let row = |state: i32| format!("2 2 ok 2 0 0 0 {state} - -");
+        assert_eq!(lines(RIG, "", &input)[2], row(right), "{word}");
+        assert_shows(RIG, fault, &input, 2, &row(wrong));
+    }
+}
+
+#[test]
+fn missing_present_shows() {
+    let settings = "1 4 1 65536 65536 0 0 0 65536 0 0 0 65536 -9 9 7";
+    let input = format!("rig 3 {settings}\nT 2 - 1 1 1\nT 2 1 1 1 1\n");
+    let row = "2 2 ok 2 0 0 0 0 - -";
+    assert_shows(RIG, "missing_present", &input, 2, row);
+    // With m below 4 every row has missing readings at or above m.
+    let input = reading_on_the_rig(7, "1");
+    let row = "1 2 r7 0 0 0 0 7 - -";
+    assert_shows(RIG, "missing_present", &input, 1, row);
 }

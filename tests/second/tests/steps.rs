@@ -1,12 +1,13 @@
 //! Steps on replicas handed in, by the public calls alone, as a comparison
 //! program takes them: every field may hold anything, and each comes back.
 
-use std::env;
-use std::process::Command;
+mod planted;
 
+use planted::Case;
 use second::fault;
 use second::frame::{self, Frame, ACK, COMMAND_AREA, DECIDE, ESTIMATE, FRAME_AREA, PROPOSE};
 use second::law::{self, Readings, Settings};
+use second::reading::{convert_row, Reading, Row};
 use second::refusal::Refusal;
 use second::replica::{coordinator, Answer, Areas, Estimate, Heard, Mode, Replica, Step};
 use second::replica::{HEARD_PLACES, MOST_BOXES};
@@ -17,7 +18,7 @@ const FILL: u8 = 0xAA;
 const ENOUGH: (usize, usize) = (FRAME_AREA, COMMAND_AREA);
 
 enum Event {
-    Tick(Readings),
+    Tick(Row),
     GiveUp,
     Arrive(Vec<u8>),
 }
@@ -37,7 +38,7 @@ fn take(replica: Replica, event: &Event, lengths: (usize, usize)) -> Taken {
         command: &mut command,
     };
     let (replica, step) = match event {
-        Event::Tick(readings) => replica.tick(readings, areas),
+        Event::Tick(row) => replica.tick(row, areas),
         Event::GiveUp => replica.give_up(areas),
         Event::Arrive(bytes) => replica.arrive(bytes, areas),
     };
@@ -161,11 +162,12 @@ fn arrival(kind: u8, sender: u8, view: u32) -> Event {
     Event::Arrive(bytes_of(&arriving(kind, sender, view)))
 }
 
+/// A tick with the counts 5, 6, 7 and 8, those without a mark missing.
 fn tick_of(marks: u8) -> Event {
-    Event::Tick(Readings {
-        marks,
-        values: [5, 6, 7, 8],
-    })
+    Event::Tick(std::array::from_fn(|j| match marks >> j & 1 {
+        0 => Reading::Missing,
+        _ => Reading::Count(5 + j as i32),
+    }))
 }
 
 // What comes back.
@@ -175,7 +177,7 @@ fn refused_and_ignored_steps_give_back_what_was_handed_in() {
     let refused = |refusal| Answer::Refused(refusal);
     let cases = [
         (tick_of(0b100), ENOUGH, refused(Refusal::Marks)),
-        (tick_of(0b1000_0000), ENOUGH, refused(Refusal::Marks)),
+        (tick_of(0b1000), ENOUGH, refused(Refusal::Marks)),
         (tick_of(0), (68, 1000), refused(Refusal::Areas)),
         (tick_of(0), (1000, 23), refused(Refusal::Areas)),
         (Event::GiveUp, (0, 0), refused(Refusal::Areas)),
@@ -455,6 +457,27 @@ impl Random {
         }
     }
 
+    /// A reading of any kind; one single in two is in i32's range or near it.
+    fn reading(&mut self) -> Reading {
+        match self.below(4) {
+            0 => Reading::Missing,
+            1 => Reading::Newtons(f32::from_bits(self.next())),
+            2 => Reading::Newtons(self.next() as i32 as f32 / 65_000.0),
+            _ => Reading::Count(self.value()),
+        }
+    }
+
+    /// Seldom with anything at or above m that 7 may find.
+    fn row(&mut self, m: u8) -> Row {
+        let mut row: Row = std::array::from_fn(|_| self.reading());
+        if !self.one_in(4) {
+            let beyond = [Reading::Missing, Reading::Newtons(f32::NAN)];
+            let places = row.iter_mut().skip(m.into());
+            places.for_each(|place| *place = beyond[self.below(2) as usize]);
+        }
+        row
+    }
+
     fn estimate(&mut self) -> Estimate {
         Estimate {
             state: self.state(),
@@ -507,13 +530,7 @@ impl Random {
 
     fn event(&mut self, replica: &Replica) -> Event {
         match self.below(8) {
-            0 | 1 => {
-                let mut readings = self.readings();
-                if !self.one_in(4) {
-                    readings = readings.as_read(replica.settings.m);
-                }
-                Event::Tick(readings)
-            }
+            0 | 1 => Event::Tick(self.row(replica.settings.m)),
             2 => Event::GiveUp,
             3 => {
                 let length = self.below(80);
@@ -625,11 +642,11 @@ fn assert_kept(before: &Replica, event: &Event, taken: &Taken) {
     assert!(emptied || !empties && beyond(after) == beyond(before));
     assert!(!empties || after.has_best || after.best == Heard::default());
 
-    let m = before.settings.m;
     match event {
-        Event::Tick(readings) => {
+        Event::Tick(row) => {
             assert_eq!(after.period, before.period + 1);
-            assert_eq!(after.estimate.readings, readings.as_read(m));
+            // Nothing is dropped: what stands at or above m is missing.
+            assert_eq!(after.estimate.readings, convert_row(row));
             let n = usize::from(before.settings.n);
             let updated = after.estimate.state[n..].iter().all(|&place| place == 0);
             assert!(updated || before.period == 0);
@@ -652,9 +669,6 @@ fn assert_sent(taken: &Taken) {
 }
 
 // The planted faults.
-
-/// A fault's name, and whether what it breaks holds.
-type Case = (&'static str, fn() -> bool);
 
 const CASES: [Case; 11] = [
     ("areas_before_settings", || {
@@ -718,34 +732,14 @@ fn refused_by(replica: Replica, event: &Event, lengths: (usize, usize), refusal:
     take(replica, event, lengths).step.answer == Answer::Refused(refusal)
 }
 
-/// Without a fault all cases hold. The test after this one runs it in
-/// processes of their own, since a fault once planted stays.
 #[test]
 fn cases_hold() {
-    fault::plant_from_environment().unwrap();
-    let holds = |&(_, case): &Case| case();
-    let broken: Vec<&str> = CASES
-        .iter()
-        .filter(|case| !holds(case))
-        .map(|case| case.0)
-        .collect();
-    assert!(broken.is_empty(), "broken: {}.", broken.join(" "));
+    planted::hold(&CASES);
 }
 
 #[test]
 fn each_fault_breaks_its_case_alone() {
-    for ((name, _), (case, _)) in fault::STEP_NAMES.iter().zip(CASES) {
-        assert_eq!(*name, case);
-        let output = Command::new(env::current_exe().unwrap())
-            .args(["--exact", "cases_hold", "--nocapture"])
-            .env(fault::VARIABLE, name)
-            .env("RUST_BACKTRACE", "0")
-            .output()
-            .unwrap();
-        let printed = [output.stdout, output.stderr].concat();
-        let printed = String::from_utf8(printed).unwrap();
-        assert!(printed.contains(&format!("broken: {name}.")), "{printed}");
-    }
+    planted::each_breaks_its_case_alone(&fault::STEP_NAMES, &CASES);
 }
 
 #[test]

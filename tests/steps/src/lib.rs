@@ -89,14 +89,15 @@ pub fn make(settings: &Settings, held: &mut Held) -> u32 {
     call!(steps_make, settings, held)
 }
 
+/// A tick with four readings, each by its kind and 32 bits: 1 is a count in two's complement, 2 a single, any other kind is missing.
 pub fn tick(
     settings: &Settings,
     held: &mut Held,
-    present: &[u8; 4],
-    values: &[i32; 4],
+    kinds: &[u8; 4],
+    bits: &[u32; 4],
     lent: Lent,
 ) -> u32 {
-    step!(steps_tick, settings, held, lent, present, values)
+    step!(steps_tick, settings, held, lent, kinds, bits)
 }
 
 pub fn give_up(settings: &Settings, held: &mut Held, lent: Lent) -> u32 {

@@ -1,5 +1,6 @@
 use super::*;
 use crate::frame::{COMMAND_AREA, FRAME_AREA};
+use crate::reading::{convert_row, Reading};
 use crate::script::bench_settings;
 
 const FILL: u8 = 0xAA;
@@ -37,11 +38,17 @@ fn run(event: impl FnOnce(Areas) -> (Replica, Step)) -> Taken {
 }
 
 fn tick(replica: Replica, y: i32) -> Taken {
-    let readings = Readings {
-        marks: 1,
-        values: [y, 0, 0, 0],
-    };
-    run(|areas| replica.tick(&readings, areas))
+    tick_with(replica, &row_of(Reading::Count(y)))
+}
+
+fn tick_with(replica: Replica, row: &Row) -> Taken {
+    run(|areas| replica.tick(row, areas))
+}
+
+/// The bench's row: one reading, the others missing.
+fn row_of(first: Reading) -> Row {
+    let missing = Reading::Missing;
+    [first, missing, missing, missing]
 }
 
 fn give_up(replica: Replica) -> Taken {
@@ -358,11 +365,8 @@ fn settings_handed_in_come_before_the_areas_and_these_before_the_event() {
             frame: &mut frame,
             command: &mut command,
         };
-        let readings = Readings {
-            marks: 2,
-            ..Readings::default()
-        };
-        replica.tick(&readings, areas).1.answer
+        let row = [Reading::Count(0); 4];
+        replica.tick(&row, areas).1.answer
     };
     let mut replica = fresh(3, 2);
     assert_eq!(step(replica, (69, 24)), Answer::Refused(Refusal::Marks));
@@ -504,6 +508,18 @@ impl Random {
         self.0 ^= self.0 << 17;
         (self.0 >> 20) as usize % bound
     }
+
+    /// Of any kind: counts and singles of the same size, now and then missing
+    /// or a single that counts as missing.
+    fn reading(&mut self) -> Reading {
+        let count = self.below(1000) as i32 - 500;
+        match self.below(10) {
+            0 => Reading::Missing,
+            1 => Reading::Newtons([f32::NAN, f32::INFINITY, -40_000.0][self.below(3)]),
+            2..=5 => Reading::Newtons((count as f32 + 0.5) / 65_536.0),
+            _ => Reading::Count(count),
+        }
+    }
 }
 
 /// The first box of the least period.
@@ -567,12 +583,15 @@ impl History {
         history
     }
 
+    /// Document 02: "In the run of demand 3 a reading means its converted
+    /// value."
     fn tick(&mut self, replica: Replica, random: &mut Random) -> Taken {
-        let taken = tick(replica, random.below(1000) as i32 - 500);
+        let row = row_of(random.reading());
+        let taken = tick_with(replica, &row);
         let period = taken.replica.period as usize;
         self.rows
             .resize_with(self.rows.len().max(period + 1), Vec::new);
-        self.rows[period].push(taken.replica.estimate.readings);
+        self.rows[period].push(convert_row(&row));
         taken
     }
 

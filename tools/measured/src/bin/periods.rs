@@ -6,7 +6,7 @@ use std::io::{self, Read};
 
 use measured::group::{Law, VALUES};
 use second::frame;
-use second::law::Readings;
+use second::reading::{Reading, Row};
 use second::replica::{Areas, Replica};
 
 /// The longest frame and the longest command.
@@ -18,8 +18,8 @@ mod steps {
     use super::*;
 
     #[inline(never)]
-    pub fn tick(replica: Replica, readings: &Readings, areas: Areas) -> (Replica, usize) {
-        let (replica, step) = replica.tick(readings, areas);
+    pub fn tick(replica: Replica, row: &Row, areas: Areas) -> (Replica, usize) {
+        let (replica, step) = replica.tick(row, areas);
         (replica, step.frame_length)
     }
 
@@ -39,7 +39,7 @@ mod steps {
 /// A group, the command that it wrote last, and the box whose view it is.
 struct Group<const N: usize> {
     replicas: [Replica; N],
-    readings: Readings,
+    row: Row,
     command: CommandArea,
     coordinator: usize,
 }
@@ -52,10 +52,10 @@ impl<const N: usize> Group<N> {
             replicas: array::from_fn(|j| {
                 Replica::new(number(N), number(j + 1), settings).expect("settings that are taken")
             }),
-            readings: Readings {
-                marks: number((1 << m) - 1),
-                values: VALUES,
-            },
+            row: array::from_fn(|j| match j < m {
+                true => Reading::Count(VALUES[j]),
+                false => Reading::Missing,
+            }),
             command: [0; 24],
             coordinator: 0,
         }
@@ -63,7 +63,7 @@ impl<const N: usize> Group<N> {
 
     fn tick(&mut self, j: usize, frame: &mut FrameArea) -> usize {
         let command = &mut self.command;
-        let (replica, sent) = steps::tick(self.replicas[j], &self.readings, Areas { frame, command });
+        let (replica, sent) = steps::tick(self.replicas[j], &self.row, Areas { frame, command });
         self.replicas[j] = replica;
         sent
     }

@@ -46,8 +46,8 @@ returns-2 c =
     let n = c .before .count-spaces .ensures in
     rw (ne-eqb _ _ (λ z. c .before .before .before .before .if1 .left (b ∙ z)))
     (c .called-for .ensures
-    ∙ ap (λ (at : ℕ). calledFor at (s .m) (c .before .before .letter .result) (c .before .count-spaces .result) line) b
-    ∙ ap₂ (λ (x y : ℕ). calledFor (boxOf (s .boxes) (field 1 line)) (s .m) x y line) l n)
+    ∙ ap (λ (at : ℕ). calledFor (s .of-rig) at (s .m) (c .before .before .letter .result) (c .before .count-spaces .result) line) b
+    ∙ ap₂ (λ (x y : ℕ). calledFor (s .of-rig) (boxOf (s .boxes) (field 1 line)) (s .m) x y line) l n)
 
 pub call-in-spec : {M : Type 1} → statement M
 call-in-spec =

@@ -3,11 +3,11 @@ use borrow.Author.Needs.{needs}
 use Rattle.line.proofs.events.calls.Statement.{statement}
 use Rattle.line.proofs.events.calls.Tie as tie
 
-no-readings-requires : tie.Need-no-readings-requires
-no-readings-requires c κs = search needs
+missing-requires : tie.Need-missing-requires
+missing-requires c κs = search needs
 
 returns : tie.Need-returns
-returns c = λ i. record { event = c .before .args .event; readings = c .no-readings .ensures i }
+returns c = λ i. record { event = c .before .args .event; readings = c .missing .ensures i }
 
 pub calls-spec : {M : Type 1} → statement M
-calls-spec = tie.close (tie.spec no-readings-requires returns)
+calls-spec = tie.close (tie.spec missing-requires returns)

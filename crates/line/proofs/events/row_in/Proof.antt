@@ -11,16 +11,16 @@ use Rattle.line.proofs.events.row_in.Statement.{statement}
 use Rattle.line.proofs.events.row_in.Tie as tie
 
 abbrev Inv-loop : tie.InvT-loop
-Inv-loop m line row₀ j₀ row j = (j ≤ m) × (row .readings ≡ rowOf j line) × (row .all ≡ allReadings j line)
+Inv-loop ofRig m line row₀ j₀ row j = (j ≤ m) × (row .readings ≡ rowOf ofRig j line) × (row .all ≡ allReadings ofRig j line)
 
 abbrev μ-loop : tie.MeasureT-loop
-μ-loop m line row₀ j₀ row j = m - j
+μ-loop ofRig m line row₀ j₀ row j = m - j
 
-no-readings-requires : tie.Need-no-readings-requires Inv-loop μ-loop
-no-readings-requires c κs = search needs
+missing-requires : tie.Need-missing-requires Inv-loop μ-loop
+missing-requires c κs = search needs
 
 loop-holds : tie.Need-loop-holds Inv-loop μ-loop
-loop-holds c = (omega arith, c .no-readings .ensures ∙ row-none _, readings-none _)
+loop-holds c = (omega arith, c .missing .ensures ∙ row-none _ _, readings-none _ _)
 
 add-field : tie.Need-add-field Inv-loop μ-loop
 add-field c = search needs
@@ -40,12 +40,11 @@ loop-less c = search needs
 loop-again : tie.Need-loop-again Inv-loop μ-loop
 loop-again c =
     let l = c .before .before .before .loop in
-    let line = c .before .before .before .before .before .before .args .line .now in
-    let e = c .with-reading .ensures ∙ ap (readWith (l .row) (l .j)) (c .before .field .ensures) in (
+    let a = c .before .before .before .before .before .before .args in
+    let e = c .with-reading .ensures ∙ ap (readWith (a .of-rig) (l .row) (l .j)) (c .before .field .ensures) in (
       omega arith,
-      ap (λ (r : Row). r .readings) e ∙ row-more line (l .row) (l .j) (l .inv .1),
-      ap (λ (r : Row). r .all) e ∙ readings-more line (l .row)
-          (l .j) (l .inv .2),
+      ap (λ (r : Row). r .readings) e ∙ row-more (a .of-rig) (a .line .now) (l .row) (l .j) (l .inv .1),
+      ap (λ (r : Row). r .all) e ∙ readings-more (a .of-rig) (a .line .now) (l .row) (l .j) (l .inv .2),
     )
 
 returns : tie.Need-returns Inv-loop μ-loop
@@ -60,7 +59,7 @@ row-in-spec =
     (tie.spec
     Inv-loop
     μ-loop
-    no-readings-requires
+    missing-requires
     loop-holds
     add-field
     field-requires

@@ -13,12 +13,12 @@ use Rattle.script.proofs.output.play_lines.Statement.{statement}
 use Rattle.script.proofs.output.play_lines.Tie as tie
 
 abbrev Inv-loop : tie.InvT-loop
-Inv-loop boxes m text table₀ lengths₀ output₀ start held₀ end₀ at₀ number₀ table lengths output held end at number =
-    Sofar boxes m start text output₀
-    (played boxes m 0 (left held₀ table₀ lengths₀ (take start output₀)) (linesOf most text)) output held table lengths end at number
+Inv-loop ofRig boxes m text table₀ lengths₀ output₀ start held₀ end₀ at₀ number₀ table lengths output held end at number =
+    Sofar ofRig boxes m start text output₀
+    (played ofRig boxes m 0 (left held₀ table₀ lengths₀ (take start output₀)) (linesOf most text)) output held table lengths end at number
 
 abbrev μ-loop : tie.MeasureT-loop
-μ-loop boxes m text table₀ lengths₀ output₀ start held₀ end₀ at₀ number₀ table lengths output held end at number = most - number
+μ-loop ofRig boxes m text table₀ lengths₀ output₀ start held₀ end₀ at₀ number₀ table lengths output held end at number = most - number
 
 short : (c : tie.After-shared-slice-known Inv-loop μ-loop) → length (c .before .args .text .now) < 18446744073709551615
 short c = omega arith
@@ -53,7 +53,7 @@ returns : tie.Need-returns Inv-loop μ-loop
 returns c =
     let l = c .before .before .loop in
     let a = c .before .before .before .before .before .before .before .args in (
-      no-more (a .boxes) (a .m) (a .start) (a .text .now) (a .output .now)
+      no-more (a .of-rig) (a .boxes) (a .m) (a .start) (a .text .now) (a .output .now)
           (c .before .before .before .before .before .before .before .pre .2) _ _ _ _ _ _ _ _ (l .inv) (lines-end _ (a .text .now) (l .at)
           (c .if1 .taken)),
       l .inv .from,
@@ -77,6 +77,9 @@ part-call-in-end c = search needs
 call-in-requires : tie.Need-call-in-requires Inv-loop μ-loop
 call-in-requires c κs = search needs
 
+readings-of-requires : tie.Need-readings-of-requires Inv-loop μ-loop
+readings-of-requires c κs = search needs
+
 place-of-requires : tie.Need-place-of-requires Inv-loop μ-loop
 place-of-requires c κs = search needs
 
@@ -96,23 +99,27 @@ array-set-from-held : tie.Need-array-set-from-held Inv-loop μ-loop
 array-set-from-held c = search needs
 
 add-at : tie.Need-add-at Inv-loop μ-loop
-add-at c = let h = short (c .before .before .before .before .before .before .before .before .before .before .before .before .before .before .before .before .before .before .before .before .before .before .before) in omega (arith, h, c .before .before .before .before .before .before .before .before .before .before .before .before .before .before .before .before .line-end .ensures .1)
+add-at c =
+    let e = c .before .before .before .before .before .before .before .before .before .before .before .before .before .before .before .before .before in
+    omega (arith, short (e .before .before .before .before .before .before .before), e .line-end .ensures .1)
 
 loop-less : tie.Need-loop-less Inv-loop μ-loop
-loop-less c = search needs
+loop-less c =
+    omega (arith, c .before .before .before .before .before .before .before .before .before .before .before .before .before .before .before .before .before .before .before .loop-test .taken)
 
 loop-again : tie.Need-loop-again Inv-loop μ-loop
 loop-again c =
-    let l = c .before .before .before .before .before .before .before .before .before .before .before .before .before .before .before .before .before .before .before .loop in
-    let a = c .before .before .before .before .before .before .before .before .before .before .before .before .before .before .before .before .before .before .before .before .before .before .before .before .args in
+    let p = c .before .before .before .before .before .before .before .before .before .before .before .before in
+    let l = p .before .before .before .before .before .before .before .before .loop in
+    let s = p .before .before .before .before .before .before .before .before .before .before .before .before .before in
+    let a = s .args in
     let t = c .before .before .before .before .before .before .before .play in
-    let line = c .before .before .before .before .before .before .before .before .before .before .before .before .before .before .before .before .line-end .ensures in
-    let place = c .before .before .before .before .before .before .before .before .before .before .before .before .place-of in
-    one-more (a .boxes) (a .m) (a .start) (a .text .now) (a .output .now)
-    (c .before .before .before .before .before .before .before .before .before .before .before .before .before .before .before .before .before .before .before .before .before .before .before .before .pre .2) _ _ _ _ _ _ _ _ (l .inv)
-    (c .before .before .before .before .before .before .before .before .before .before .before .before .before .before .before .before .line-end .result)
-    (place .result) (c .before .before .before .before .before .before .before .before .before .before .before .before .before .before .call-in .result) _ _
-    (c .before .before .before .before .before .before .before .before .before .before .before .before .before .before .before .before .before .before .loop-test .taken) (omega (arith, c .before .before .before .before .before .before .before .before .before .before .before .before .before .before .before .before .before .if1 .left)) (line .2) (line .3) (c .before .before .before .before .before .before .before .before .before .before .before .before .before .before .call-in .ensures) (place .ensures .0) (place .ensures .1) refl
+    let call = p .before .before .before .call-in in
+    let line = p .before .before .before .before .before .line-end in
+    one-more (a .of-rig) (a .boxes) (a .m) (a .start) (a .text .now) (a .output .now) (s .pre .2) _ _ _ _ _ _ _ _ (l .inv)
+    (line .result) (p .place-of .result) (call .result) _ _ (p .before .readings-of .result)
+    (p .before .before .before .before .before .before .before .loop-test .taken) (omega (arith, p .before .before .before .before .before .before .if1 .left))
+    (line .ensures .2) (line .ensures .3) (call .ensures) (p .place-of .ensures .0) (p .place-of .ensures .1) refl (p .before .readings-of .ensures)
     (t .kept .1 .1 .1 .1 .0) (t .kept .1 .1 .1 .1 .1 .0) (t .kept .1 .1 .1 .1 .1 .1 .0) (t .ensures)
 
 same-length-4 : tie.Need-same-length-4 Inv-loop μ-loop
@@ -129,7 +136,7 @@ returns-2 c =
     let l = c .before .loop in
     let a = c .before .before .before .before .before .before .args in
     let none : most - l .number ≡ 0 = omega (arith, c .loop-test .left) in (
-      no-more (a .boxes) (a .m) (a .start) (a .text .now) (a .output .now) (c .before .before .before .before .before .before .pre .2) _ _ _ _ _ _ _ _
+      no-more (a .of-rig) (a .boxes) (a .m) (a .start) (a .text .now) (a .output .now) (c .before .before .before .before .before .before .pre .2) _ _ _ _ _ _ _ _
           (l .inv) (no-lines _ (drop (l .at) (a .text .now)) none),
       l .inv .from,
     )
@@ -151,6 +158,7 @@ play-lines-spec =
     part-call-in-start
     part-call-in-end
     call-in-requires
+    readings-of-requires
     place-of-requires
     mul-play
     array-copy-out-play

@@ -59,7 +59,7 @@ returns c =
     let same : start ≡ unplayed (a .settings) =
     ap₂ (λ (r : List Replica) (p : List ℕ). left r (replicate tableLength 0) (replicate (most + 1) 0) p)
     (c .before .before .before .before .before .before .before .before .before .before .before .before .before .fresh .ensures) (w .text) in
-    let whole = ap₂ (λ (m : ℕ) (l : Left). played (a .settings .boxes) m 0 l (linesOf most (a .text .now)) .printed)
+    let whole = ap₂ (λ (m : ℕ) (l : Left). played (a .of-rig) (a .settings .boxes) m 0 l (linesOf most (a .text .now)) .printed)
     (c .before .before .before .before .before .before .before .before .before .before .before .before .at-most .ensures) same in
     let p = c .before .before .before .before .play-lines .ensures in
     prints-same whole

@@ -99,8 +99,8 @@ uint8_t winder_convert_single(uint32_t bits, int32_t *value);
  *   e(j)  = clamp(y(j) - (sum over i of C(j,i) * x(i)) / 65536) for a present reading, and 0 for an absent one
  *   x'(i) = clamp((sum of A(i,j) * x(j) + sum of L(i,j) * e(j)) / 65536), one division for both sums
  *
- * Clamp means: into the int32_t range. Division rounds toward minus infinity. state: in, the state x; out, the state x', and 0 in the
- * places beyond n. k, low and high are looked at for refusals alone.
+ * Clamp means: into the int32_t range. Division goes to the nearest whole number, ties to the even one. state: in, the state x; out, the
+ * state x', and 0 in the places beyond n. k, low and high are looked at for refusals alone.
  *
  * Refuses by 2, 3 and 4.
  */
@@ -145,8 +145,8 @@ static inline uint32_t winder_update_with(
  *
  *   command j = (sum over i of K(j,i) * x(i)) / 65536, brought into its own limits low[j] and high[j]
  *
- * Division rounds toward minus infinity. commands: out, the commands, and 0 in the places beyond p. a, l and c are looked at for
- * refusals alone.
+ * Division goes to the nearest whole number, ties to the even one. commands: out, the commands, and 0 in the places beyond p. a, l and c
+ * are looked at for refusals alone.
  *
  * Refuses by 2, 3 and 4.
  */

@@ -22,8 +22,9 @@ enum { TENSION, LEAD, DRAG, SETPOINT };
 /* Newtons for each millimetre per second of lead too much: a damping of 0.6. */
 #define DAMPING 4.8
 
+/* In newtons. */
 #define LOWEST_COMMAND 0
-#define HIGHEST_COMMAND (600 * NEWTON)
+#define HIGHEST_COMMAND 600
 
 /* What one period adds: tension by lead, lead by force, and the share of the tension that the roll carries away. */
 #define TENSION_BY_LEAD (WEB_STIFFNESS / SPAN * PERIOD / MILLIMETRES)
@@ -69,9 +70,12 @@ static void fill_row(struct winder_settings *law, size_t i)
     }
 }
 
-static struct winder_settings settings(void)
+/* With so many units in a newton; gains are the same in all units. */
+static struct winder_settings settings(int32_t newton)
 {
-    struct winder_settings law = {.n = STATES, .m = READINGS, .p = COMMANDS, .low = {LOWEST_COMMAND}, .high = {HIGHEST_COMMAND}};
+    struct winder_settings law = {.n = STATES, .m = READINGS, .p = COMMANDS};
+    law.low[0] = LOWEST_COMMAND * newton;
+    law.high[0] = HIGHEST_COMMAND * newton;
     for (size_t i = 0; i < STATES; i++) {
         fill_row(&law, i);
         law.l[i * 4 + TENSION_READ] = scaled(correction[i][TENSION_READ]);
@@ -85,7 +89,16 @@ static struct winder_settings settings(void)
 
 struct Controller controller_at_start(void)
 {
-    return (struct Controller){.law = settings()};
+    return (struct Controller){.law = settings(NEWTON)};
+}
+
+struct Controller controller_at_tension(double tension, double setpoint, int32_t newton)
+{
+    struct Controller controller = {.law = settings(newton)};
+    controller.state[TENSION] = (int32_t)lround(tension * newton);
+    controller.state[LEAD] = (int32_t)lround(LEAD_OF_TENSION * tension * newton);
+    controller.state[SETPOINT] = (int32_t)lround(setpoint * newton);
+    return controller;
 }
 
 uint32_t controller_step(struct Controller *controller, const struct Readings *readings, int32_t *command)

@@ -23,6 +23,12 @@ struct Controller {
 struct Controller controller_at_start(void);
 
 /*
+ * The same gains with forces counted in 1/newton of a newton and the lead in as much of a millimetre per second, as they stand where a web
+ * is held at the tension and the drive knows of no drag.
+ */
+struct Controller controller_at_tension(double tension, double setpoint, int32_t newton);
+
+/*
  * One period: the readings in, the command for the next period out. The result is 0, or the number by which the law refused; then the
  * command is as it was.
  */

@@ -1,7 +1,7 @@
 /*
  * mill: winds one roll under the law of winder.h and writes a table of it, or with --svg a picture, to standard output. With --rig N it
  * writes the first line of program rig for N boxes that run the same law, and with --rig N PERIOD for boxes that start at that period of
- * the roll, counted from 0.
+ * the roll, counted from 0. With --rest it holds webs at rest, and writes a table of them; with --rest-svg a picture of one.
  */
 #include <ctype.h>
 #include <stdbool.h>
@@ -11,12 +11,13 @@
 
 #include "controller.h"
 #include "picture.h"
+#include "rest_output.h"
 #include "rig_line.h"
 #include "simulation.h"
 #include "table.h"
 #include "winder.h"
 
-enum Output { TABLE, PICTURE, RIG_LINE, NOTHING };
+enum Output { TABLE, PICTURE, RIG_LINE, REST_TABLE, REST_PICTURE, NOTHING };
 
 struct Wanted {
     enum Output output;
@@ -40,6 +41,12 @@ static struct Wanted wanted(int argc, char **argv)
     }
     if (argc == 2 && strcmp(argv[1], "--svg") == 0) {
         return (struct Wanted){.output = PICTURE};
+    }
+    if (argc == 2 && strcmp(argv[1], "--rest") == 0) {
+        return (struct Wanted){.output = REST_TABLE};
+    }
+    if (argc == 2 && strcmp(argv[1], "--rest-svg") == 0) {
+        return (struct Wanted){.output = REST_PICTURE};
     }
     bool is_rig = (argc == 3 || argc == 4) && strcmp(argv[1], "--rig") == 0;
     if (is_rig && '3' <= argv[2][0] && argv[2][0] <= '9' && argv[2][1] == '\0') {
@@ -85,16 +92,28 @@ static bool wind(const struct Wanted *what)
     return write_output(what, &record);
 }
 
+static bool write_wanted(const struct Wanted *what)
+{
+    switch (what->output) {
+    case REST_TABLE:
+        return write_rest_table();
+    case REST_PICTURE:
+        return write_rest_picture();
+    default:
+        return wind(what);
+    }
+}
+
 int main(int argc, char **argv)
 {
     struct Wanted what = wanted(argc, argv);
     if (what.output == NOTHING) {
-        fprintf(stderr, "usage: mill [--svg | --rig N [PERIOD]], N from 3 to 9\n");
+        fprintf(stderr, "usage: mill [--svg | --rig N [PERIOD] | --rest | --rest-svg], N from 3 to 9\n");
         return 2;
     }
     if (winder_version() != WINDER_VERSION) {
         fprintf(stderr, "mill: compiled for version %d of the law, linked with %u\n", WINDER_VERSION, (unsigned)winder_version());
         return 1;
     }
-    return !wind(&what) || ferror(stdout) || fflush(stdout) != 0;
+    return !write_wanted(&what) || ferror(stdout) || fflush(stdout) != 0;
 }

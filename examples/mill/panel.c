@@ -5,6 +5,35 @@
 
 #define SMALLEST_STEP 0.5 /* pixels that are worth a point of their own */
 
+static const char style[] =
+    "<style>\n"
+    "text { fill: #333 } .title { font-size: 17px; font-weight: bold } .heading { font-weight: bold }\n"
+    ".end { text-anchor: end } .middle { text-anchor: middle } .label { fill: #666; font-size: 11px }\n"
+    "path { fill: none; stroke-linejoin: round } .frame { fill: none; stroke: #333 } .tick { stroke: #333 }\n"
+    ".grid { stroke: #e4e4e4 } .mark { stroke: #999; stroke-dasharray: 3 3 } .shade { fill: #f3dfb5 }\n"
+    ".setpoint { stroke: #888; stroke-width: 1.2 } .tension { stroke: #1f5fa8; stroke-width: 1.4 }\n"
+    ".command { stroke: #b4501e; stroke-width: 1.4 } .reading { stroke: #b5cde8; stroke-width: 1 }\n"
+    "</style>\n";
+
+void picture_head(int width, int height, const char *title)
+{
+    printf("<svg xmlns=\"http://www.w3.org/2000/svg\" width=\"%d\" height=\"%d\" viewBox=\"0 0 %d %d\" font-family=\"sans-serif\" "
+           "font-size=\"12\">\n",
+           width, height, width, height);
+    printf("%s<rect width=\"%d\" height=\"%d\" fill=\"#fff\"/>\n", style, width, height);
+    printf("<text class=\"title\" x=\"60\" y=\"30\">%s</text>\n", title);
+}
+
+void picture_end(void)
+{
+    printf("</svg>\n");
+}
+
+void panel_key(double x, double y, const char *class, const char *name)
+{
+    printf("<path class=\"%s\" d=\"M%.1f %.1fh24\"/><text x=\"%.1f\" y=\"%.1f\">%s</text>\n", class, x, y - 4.0, x + 30.0, y, name);
+}
+
 static double at_x(const struct Panel *panel, double x)
 {
     return panel->left + (x - panel->x_low) / (panel->x_high - panel->x_low) * panel->width;

@@ -1,7 +1,8 @@
-/* One panel of a picture: a frame with ticks, and curves in it. Everything is written to standard output as SVG. */
+/* Pictures of panels: a frame with ticks, and curves in it. Everything is written to standard output as SVG. */
 #ifndef PANEL_H
 #define PANEL_H
 
+#include "columns.h"
 #include "record.h"
 
 /* Place and size in the picture, and the values at the frame's edges. */
@@ -11,7 +12,9 @@ struct Panel {
     double x_low, x_high, y_low, y_high;
 };
 
-typedef double (*Column)(const struct Row *row);
+/* What stands before the panels, and after them. */
+void picture_head(int width, int height, const char *title);
+void picture_end(void);
 
 /* The frame with a title above it, and the names of the axes. */
 void panel_frame(const struct Panel *panel, const char *title, const char *x_name, const char *y_name);
@@ -31,5 +34,8 @@ void panel_shade(const struct Panel *panel, double from, double to);
  * is lost.
  */
 void panel_curve(const struct Panel *panel, const struct Record *record, Column x, Column y, const char *class);
+
+/* A sample of a curve and its name, at a place of the picture. */
+void panel_key(double x, double y, const char *class, const char *name);
 
 #endif

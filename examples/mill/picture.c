@@ -2,56 +2,13 @@
 
 #include <stdio.h>
 
+#include "columns.h"
 #include "line.h"
 #include "panel.h"
 #include "plant.h"
 
 #define DETAIL_TIME 2.0   /* s */
 #define DETAIL_BEFORE 0.2 /* s shown before the event */
-
-static const char head[] =
-    "<svg xmlns=\"http://www.w3.org/2000/svg\" width=\"960\" height=\"760\" viewBox=\"0 0 960 760\" font-family=\"sans-serif\" "
-    "font-size=\"12\">\n"
-    "<style>\n"
-    "text { fill: #333 } .title { font-size: 17px; font-weight: bold } .heading { font-weight: bold }\n"
-    ".end { text-anchor: end } .middle { text-anchor: middle } .label { fill: #666; font-size: 11px }\n"
-    "path { fill: none; stroke-linejoin: round } .frame { fill: none; stroke: #333 } .tick { stroke: #333 }\n"
-    ".grid { stroke: #e4e4e4 } .mark { stroke: #999; stroke-dasharray: 3 3 } .shade { fill: #f3dfb5 }\n"
-    ".setpoint { stroke: #888; stroke-width: 1.2 } .tension { stroke: #1f5fa8; stroke-width: 1.4 }\n"
-    ".command { stroke: #b4501e; stroke-width: 1.4 } .reading { stroke: #b5cde8; stroke-width: 1 }\n"
-    "</style>\n"
-    "<rect width=\"960\" height=\"760\" fill=\"#fff\"/>\n"
-    "<text class=\"title\" x=\"60\" y=\"30\">One roll wound under the law</text>\n";
-
-static double time_of(const struct Row *row)
-{
-    return row->time;
-}
-
-static double length_of(const struct Row *row)
-{
-    return row->length;
-}
-
-static double setpoint_of(const struct Row *row)
-{
-    return row->setpoint;
-}
-
-static double tension_of(const struct Row *row)
-{
-    return row->tension;
-}
-
-static double reading_of(const struct Row *row)
-{
-    return row->reading;
-}
-
-static double command_of(const struct Row *row)
-{
-    return row->command;
-}
 
 /* When a length of web was wound. */
 static double time_at(const struct Record *record, double length)
@@ -79,12 +36,6 @@ static void mark_events(const struct Panel *panel)
     panel_mark(panel, wound_length(FULL_RADIUS) - RAMP_LENGTH, "slowing");
 }
 
-/* A sample of a curve and its name. */
-static void key(double x, double y, const char *class, const char *name)
-{
-    printf("<path class=\"%s\" d=\"M%.1f %.1fh24\"/><text x=\"%.1f\" y=\"%.1f\">%s</text>\n", class, x, y - 4.0, x + 30.0, y, name);
-}
-
 static void write_tension(const struct Record *record)
 {
     struct Panel panel = whole_roll(1, 72.0, 200.0);
@@ -95,9 +46,9 @@ static void write_tension(const struct Record *record)
     panel_curve(&panel, record, length_of, setpoint_of, "setpoint");
     panel_curve(&panel, record, length_of, tension_of, "tension");
     panel_frame(&panel, "Web tension", "web wound, m", "N");
-    key(612.0, 63.0, "reading", "load cell's reading");
-    key(768.0, 63.0, "tension", "tension");
-    key(856.0, 63.0, "setpoint", "setpoint");
+    panel_key(612.0, 63.0, "reading", "load cell's reading");
+    panel_key(768.0, 63.0, "tension", "tension");
+    panel_key(856.0, 63.0, "setpoint", "setpoint");
 }
 
 static void write_command(const struct Record *record)
@@ -138,12 +89,12 @@ static void write_detail(const struct Record *record, int place, const char *tit
 
 void write_picture(const struct Record *record)
 {
-    printf("%s", head);
+    picture_head(960, 760, "One roll wound under the law");
     write_tension(record);
     write_command(record);
     write_detail(record, 0, "Start-up", 0.0, 0.0, 100.0);
     write_detail(record, 1, "Setpoint raised", time_at(record, SETPOINT_CHANGE) - DETAIL_BEFORE, 320.0, 20.0);
     write_detail(record, 2, "Splice", time_at(record, SPLICE) - DETAIL_BEFORE, 320.0, 20.0);
     write_detail(record, 3, "Splice, tension not read", time_at(record, SPLICE_UNSEEN) - DETAIL_BEFORE, 320.0, 20.0);
-    printf("</svg>\n");
+    picture_end();
 }

@@ -16,6 +16,8 @@
 #define FULL_RADIUS 0.4
 #define CORE_INERTIA 4.0 /* with shaft and gear */
 
+#define STEPS 20 /* in a period: the plant moves on in steps much shorter than one */
+
 struct Plant {
     double radius;
     double angular_speed;

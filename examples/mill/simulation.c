@@ -11,9 +11,6 @@
 #include "readings.h"
 #include "single.h"
 
-/* The plant moves on in steps much shorter than a period. */
-#define STEPS 20
-
 struct Winder {
     struct Plant plant;
     struct Cell cell;

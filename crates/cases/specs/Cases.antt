@@ -1,4 +1,4 @@
--- The cases P1 to P10 of document 01, "Cases", and those of readings in document 02, L1: one table, and one theorem over its rows, about the
+-- The cases P1 to P10 of document 01, "Cases", with those of document 02, L1 and L2: one table, and one theorem over its rows, about the
 -- definitions that the contracts cite.
 use Prim.Native.Nat.{ℕ}
 use mathlib.Core.Path.{_≡_, refl}
@@ -93,8 +93,9 @@ missing bits = pos bits ∷ pos 0 ∷ pos 0 ∷ pos 0 ∷ pos 0 ∷ []
 abbrev beyond : Reading → List ℤ
 beyond r = one (bit (markBeyond 1 (convertedRow (Missing ∷ r ∷ Missing ∷ Missing ∷ []))))
 
--- P1 "bench law, x 0, y 101: 50." P2 "y −101: −51." P3 "x 50, y 101: 75." P4 "x 50, absent: 50.", with a value under the absent mark.
--- P5 "x −2147483648, y 2147483647: −1073741825." P6 "majority of 4: 3." P7 "N 3, view 2: box 3."
+-- P1 "bench law, x 0, y 101: 50." P2 "y −101", which "becomes −50". P3 "x 50, y 101", which "becomes 76". P4 "x 50, absent: 50.", with a value
+-- under the absent mark. P5 "x −2147483648, y 2147483647", which "becomes −1073741824". "With bench settings and x 0, y 101 gives 50 and 103 gives 52":
+-- 101 is P1, 103 has a row of its own. P6 "majority of 4: 3." P7 "N 3, view 2: box 3."
 -- P8 "Ack of box 2, period 1, view 0: `02 02 00 00 01`, then fifteen `00`."
 -- P9 "estimate with base view 5, period 3 beats 4, 4", also where its box has the higher number.
 -- P10 "equal bases from boxes 2 and 3: box 2's", whichever is heard first.
@@ -104,10 +105,11 @@ beyond r = one (bit (markBeyond 1 (convertedRow (Missing ∷ r ∷ Missing ∷ M
 abbrev pub cases : List Case
 cases =
     case (after (pos 0) true (pos 101)) (first (pos 50) 5)
-    ∷ case (after (pos 0) true (minus 101)) (first (minus 51) 5)
-    ∷ case (after (pos 50) true (pos 101)) (first (pos 75) 5)
+    ∷ case (after (pos 0) true (minus 101)) (first (minus 50) 5)
+    ∷ case (after (pos 50) true (pos 101)) (first (pos 76) 5)
     ∷ case (after (pos 50) false (pos 101)) (first (pos 50) 5)
-    ∷ case (after (minus 2147483648) true (pos 2147483647)) (first (minus 1073741825) 5)
+    ∷ case (after (minus 2147483648) true (pos 2147483647)) (first (minus 1073741824) 5)
+    ∷ case (after (pos 0) true (pos 103)) (first (pos 52) 5)
     ∷ case (one (majority 4)) (one 3)
     ∷ case (one (coordinator 3 2)) (one 3)
     ∷ case (map pos (frameBytes 1 1 ack)) (map pos (2 ∷ 2 ∷ 0 ∷ 0 ∷ 1 ∷ replicate 15 0))

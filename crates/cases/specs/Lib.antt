@@ -1,3 +1,3 @@
--- The cases P1 to P10 and those of readings, and four histories.
+-- The cases P1 to P10 and those of document 02, and four histories.
 pub mod Cases
 pub mod Histories

@@ -18,10 +18,10 @@ use Rattle.law.specs.Fixed.{limited, clamp, largestProduct}
 use Rattle.law.specs.Settings.{inRange}
 
 -- `subℕ` is a `cond` of the library
-difference-size : (a b : ℕ) → natAbs (subℕ a b) ≤ a + b
+difference-size : (a b : ℕ) → natAbs (subℕ a b) ≡ (a - b) + (b - a)
 difference-size a b = by (ltb a b) refl
   where
-    by : (t : Bool) → ltb a b ≡ t → natAbs (cond t (negsuc (b - suc a)) (pos (a - b))) ≤ a + b
+    by : (t : Bool) → ltb a b ≡ t → natAbs (cond t (negsuc (b - suc a)) (pos (a - b))) ≡ (a - b) + (b - a)
     by true e = omega (arith, ltb-true a b e)
     by false e = omega (arith, ltb-false a b e)
 
@@ -31,13 +31,18 @@ negative-size (suc n) = refl
 
 pub sum-size : (a b : ℤ) → natAbs (a +ℤ b) ≤ natAbs a + natAbs b
 sum-size (pos a) (pos b) = omega arith
-sum-size (pos a) (negsuc b) = difference-size a (suc b)
+sum-size (pos a) (negsuc b) = omega (arith, difference-size a (suc b))
 sum-size (negsuc a) (pos b) = omega (arith, difference-size b (suc a))
 sum-size (negsuc a) (negsuc b) = omega arith
 
 pub minus-size : (a : ℤ) → natAbs (negℤ a) ≡ natAbs a
 minus-size (pos n) = negative-size n
 minus-size (negsuc n) = refl
+
+-- how far two numbers that are not below zero are apart
+pub distance : (a b : ℕ) → natAbs (pos a -ℤ pos b) ≡ (a - b) + (b - a)
+distance a zero = omega arith
+distance a (suc b) = difference-size a (suc b)
 
 product-size : (a b : ℤ) → natAbs (a *ℤ b) ≡ natAbs a * natAbs b
 product-size (pos a) (pos b) = refl

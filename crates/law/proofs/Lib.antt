@@ -1,5 +1,6 @@
 mod Integers
 mod Offsets
+mod Nearest
 mod Division
 mod Sums
 mod Formulas

@@ -1,5 +1,6 @@
 -- Fixed point: the numbers are whole, and a coefficient counts units of 1/65536. Sums are over the integers of mathematics, where nothing overflows.
-use Prim.Native.Nat.{ℕ, zero, suc, _*_, _/_}
+use Prim.Native.Nat.{ℕ, zero, suc, _+_, _*_, _/_, _%_}
+use lib.Dec.{ltb}
 use lib.IntN.{ℤ, pos, negsuc, negℤ, _+ℤ_}
 use lib.Signed.{ltZ}
 use Rattle.lists.specs.Choice.{pick}
@@ -8,10 +9,19 @@ use Rattle.lists.specs.Choice.{pick}
 abbrev pub minus : ℕ → ℤ
 minus n = negℤ (pos n)
 
--- "Division rounds toward minus infinity": z / 65536. `negsuc a` is −(a + 1), and what it rounds to is −(a / 65536 + 1)
+-- a / 65536 "to the nearest whole number, ties to the even one". With the quotient q and the remainder r: q where r is below a half, q + 1 where it
+-- is above, and at exactly a half the even one of the two
+abbrev pub nearest : ℕ → ℕ
+nearest a =
+    let q = a / 65536 in
+    let r = a % 65536 in
+    pick (ltb r 32768) q (pick (ltb 32768 r) (q + 1) (q + q % 2))
+
+-- "From now on all three go to the nearest whole number, ties to the even one": z / 65536. `negsuc a` is −(a + 1), and its quotient is that of a + 1
+-- with a minus
 unfoldable pub divided : ℤ → ℤ
-divided (pos a) = pos (a / 65536)
-divided (negsuc a) = negsuc (a / 65536)
+divided (pos a) = pos (nearest a)
+divided (negsuc a) = minus (nearest (suc a))
 
 -- "sum over i", i counted from 0: f 0 + .. + f (n − 1)
 unfoldable pub sum : ℕ → (ℕ → ℤ) → ℤ

@@ -9,15 +9,23 @@ ghost use Rattle.lists.specs.Places.{entry};
 ghost use Rattle.law.specs.Fixed.{divided, sum, limited, clamp, largestProduct};
 ghost use Rattle.law.specs.Settings.{inRange};
 
-// x / 65536 rounded toward minus infinity. `/` alone rounds toward zero, which is one too high where the remainder is below zero.
+// x / 65536 to the nearest whole number, ties to the even one. `%` has the sign of x: brought to 0 and above, the remainder goes with the quotient
+// toward minus infinity, and one comparison with a half serves both sides of zero.
 pub(crate) fn divide(x: i64) -> i64
     ensures { λ r. ⌜ r ≡ divided x ⌝ }
 {
-    let quotient = x / 65536;
-    if x % 65536 < 0 {
-        return quotient - 1;
+    let remainder = (x % 65536 + 65536) % 65536;
+    let below = (x - remainder) / 65536;
+    if remainder < 32768 {
+        return below;
     }
-    quotient
+    if 32768 < remainder {
+        return below + 1;
+    }
+    if below % 2 == 0 {
+        return below;
+    }
+    below + 1
 }
 
 // x brought into the limits.

@@ -4,7 +4,8 @@
 use std::env;
 use std::process::Command;
 
-use second::fault::{Fault, FRAME_NAMES, LAW_NAMES, NAMES, READING_NAMES, STEP_NAMES, VARIABLE};
+use second::fault::{Fault, FRAME_NAMES, LAW_NAMES, NAMES, READING_NAMES};
+use second::fault::{ROUNDING_NAMES, STEP_NAMES, VARIABLE};
 
 use crate::{frames, law, singles, steps};
 
@@ -15,10 +16,12 @@ pub fn table(seed: u64) -> Result<(), String> {
     println!("{:<26}first difference", "fault");
     let all_found = rows(seed, "frames", &FRAME_NAMES)?
         & rows(seed, "law", &LAW_NAMES)?
+        & rows(seed, "law", &ROUNDING_NAMES)?
         & rows(seed, "singles", &of_singles())?
         & rows(seed, "steps", &NAMES)?
         & rows(seed, "steps", &STEP_NAMES)?
-        & rows(seed, "steps", &READING_NAMES)?;
+        & rows(seed, "steps", &READING_NAMES)?
+        & rows(seed, "steps", &ROUNDING_NAMES)?;
     match all_found {
         true => Ok(()),
         false => Err("a planted fault was not found".to_string()),

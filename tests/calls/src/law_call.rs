@@ -24,9 +24,9 @@ enum Coefficients {
     Any,
     /// Within 1 of an end.
     Ends,
-    /// Within 1 of some units: with small values the sums are near multiples
-    /// of 65536, on both sides of zero.
-    NearUnits,
+    /// Within 1 of some halves of a unit: with small values the sums are near
+    /// multiples of 32768, ties and whole units, on both sides of zero.
+    NearHalves,
 }
 
 /// States and readings.
@@ -89,7 +89,7 @@ fn table<const WIDTH: usize, const HEIGHT: usize>(
         Coefficients::Small,
         Coefficients::Any,
         Coefficients::Ends,
-        Coefficients::NearUnits,
+        Coefficients::NearHalves,
     ]);
     let mut table = [[0; WIDTH]; HEIGHT];
     for (place, entry) in table.as_flattened_mut().iter_mut().enumerate() {
@@ -108,7 +108,7 @@ fn coefficient(prng: &mut Prng, sort: Coefficients) -> i32 {
         Coefficients::Small => prng.between(-131_072, 131_072),
         Coefficients::Any => prng.between(-largest, largest),
         Coefficients::Ends => prng.pick(&[-largest, 1 - largest, largest - 1, largest]),
-        Coefficients::NearUnits => 65_536 * prng.between(-3, 3) + prng.between(-1, 1),
+        Coefficients::NearHalves => 32_768 * prng.between(-6, 6) + prng.between(-1, 1),
     }
 }
 

@@ -9,14 +9,35 @@ use crate::report::write_row;
 
 const UNIT: i64 = 65_536;
 
+/// Counts of sums below zero and above.
+#[derive(Debug, Default)]
+struct Sides {
+    below: usize,
+    above: usize,
+}
+
+impl Sides {
+    fn count(&mut self, sum: i64) {
+        self.below += usize::from(sum < 0);
+        self.above += usize::from(sum > 0);
+    }
+
+    #[cfg(test)]
+    fn least(&self) -> usize {
+        self.below.min(self.above)
+    }
+}
+
 #[derive(Debug, Default)]
 pub struct Reach {
     divisions: usize,
-    /// Below zero, with a remainder.
-    rounded_down: usize,
-    /// Within 1 of a multiple of 65536: sums below zero, and above.
-    near_below: usize,
-    near_above: usize,
+    /// Ties whose even neighbour is the lower one, and the upper one.
+    ties_down: Sides,
+    ties_up: Sides,
+    /// 1 below or above a tie.
+    near_ties: Sides,
+    /// With another remainder.
+    others: Sides,
     errors_clamped: usize,
     states_clamped: usize,
     limited_below: usize,
@@ -60,20 +81,28 @@ impl Reach {
     pub fn is_everywhere(&self) -> bool {
         let clamped = self.errors_clamped.min(self.states_clamped);
         let limited = self.limited_below.min(self.limited_above);
-        let near = self.near_below.min(self.near_above);
-        [self.rounded_down, near, clamped, limited]
-            .iter()
-            .all(|&count| count > 0)
+        let sides = [
+            &self.ties_down,
+            &self.ties_up,
+            &self.near_ties,
+            &self.others,
+        ];
+        clamped.min(limited) > 0 && sides.iter().all(|sides| sides.least() > 0)
     }
 
     fn divide(&mut self, sum: i64) -> i64 {
-        let remainder = sum.rem_euclid(UNIT);
-        let near = [0, 1, UNIT - 1].contains(&remainder);
+        let (below, remainder) = (sum.div_euclid(UNIT), sum.rem_euclid(UNIT));
+        let is_even = below % 2 == 0;
         self.divisions += 1;
-        self.rounded_down += usize::from(sum < 0 && remainder != 0);
-        self.near_below += usize::from(near && sum < 0);
-        self.near_above += usize::from(near && sum > 0);
-        sum.div_euclid(UNIT)
+        match (remainder - UNIT / 2, is_even) {
+            (0, true) => self.ties_down.count(sum),
+            (0, false) => self.ties_up.count(sum),
+            (-1 | 1, _) => self.near_ties.count(sum),
+            _ if remainder != 0 => self.others.count(sum),
+            _ => (),
+        }
+        let goes_up = remainder > UNIT / 2 || remainder == UNIT / 2 && !is_even;
+        below + i64::from(goes_up)
     }
 }
 
@@ -89,9 +118,15 @@ fn clamp(value: i64) -> i64 {
 impl fmt::Display for Reach {
     fn fmt(&self, out: &mut fmt::Formatter<'_>) -> fmt::Result {
         write_row(out, "divisions", self.divisions)?;
-        write_row(out, "  below zero, with a remainder", self.rounded_down)?;
-        write_row(out, "  within 1 of a multiple, below zero", self.near_below)?;
-        write_row(out, "  within 1 of a multiple, above zero", self.near_above)?;
+        for (name, sides) in [
+            ("ties that go down", &self.ties_down),
+            ("ties that go up", &self.ties_up),
+            ("1 from a tie", &self.near_ties),
+            ("with another remainder", &self.others),
+        ] {
+            write_row(out, &format!("  {name}, below zero"), sides.below)?;
+            write_row(out, &format!("  {name}, above zero"), sides.above)?;
+        }
         write_row(out, "e(j) clamped", self.errors_clamped)?;
         write_row(out, "x'(i) clamped", self.states_clamped)?;
         write_row(out, "commands below their limits", self.limited_below)?;

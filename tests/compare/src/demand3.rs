@@ -219,7 +219,7 @@ fn bits(digits: &[u8]) -> Option<u32> {
 mod tests {
     use super::*;
 
-    const LINES: &str = "T 1 100\nT 2 102\nD 2 1\nD 1 3\nD 2 4\nT 2 -\nT 1 9\nD 2 7\nD 1 8";
+    const LINES: &str = "T 1 100\nT 2 102\nD 2 1\nD 1 3\nD 2 4\nT 2 -\nT 1 8\nD 2 7\nD 1 8";
 
     const RIGHT: &str = "no who answer k v vb kb x frame command\n\
                          1 1 ok 1 0 0 1 0 1 -\n\
@@ -293,12 +293,13 @@ mod tests {
 
     #[test]
     fn a_single_is_taken_converted() {
-        for units in [100.0, 100.5, 100.99] {
+        // 99, 100 and 101 go to 50 alike, 102 to 51: 101.99 must not become 102.
+        for units in [99.0, 100.99, 101.0, 101.5, 101.99] {
             let word = format!("f{:08x}", (units / 65_536.0_f32).to_bits());
             assert!(checked_with(&lines_from(&word), RIGHT).is_ok(), "{word}");
         }
-        // 99 of these, or 102, or none: then period 1 has no row for 50.
-        for word in ["f3ac7ffff", "f3acc0000", "f7fc00000", "f47000000", "-"] {
+        // 98 of these, or 102, or none: then period 1 has no row for 50.
+        for word in ["f3ac5ffff", "f3acc0000", "f7fc00000", "f47000000", "-"] {
             let answer = checked_with(&lines_from(word), RIGHT).unwrap_err();
             assert!(answer.contains("period 1: no choice"), "{word} {answer}");
         }
@@ -322,7 +323,7 @@ mod tests {
 
     #[test]
     fn a_row_never_handed_for_its_period_is_refused() {
-        // 9 was handed to nobody in period 1: Update(0, 9) is 4.
+        // 8 was handed to nobody in period 1: Update(0, 8) is 4.
         assert!(refused(" 50\n", " 4\n").contains("period 1: no choice"));
     }
 }

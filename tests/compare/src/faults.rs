@@ -1,6 +1,6 @@
 //! Whether the comparison finds faults planted on purpose, and how soon.
 
-use second::fault::{Fault, NAMES, READING_NAMES};
+use second::fault::{Fault, NAMES, READING_NAMES, ROUNDING_NAMES};
 
 use crate::counts::Counts;
 use crate::run::{library, Programs};
@@ -13,9 +13,6 @@ const MOST_SCRIPTS: usize = 2_000;
 struct Found {
     by_output: Option<usize>,
     by_demand3: Option<usize>,
-    /// By demand 3, on scripts written while the faulty replicas run, so that
-    /// the frames which only they send are delivered too.
-    by_own_scripts: Option<usize>,
 }
 
 /// Prints the table; gives whether every fault was found by its output.
@@ -23,19 +20,34 @@ pub fn table(seed: u64, second: impl Fn() -> Result<Programs, String>) -> Result
     let (output, demand3, own) = ("outputs differ", "demand 3", "on own scripts");
     println!("{:<26}{output:>15}{demand3:>15}{own:>17}", "fault");
     let mut all_found = true;
-    for (name, _) in NAMES.into_iter().chain(READING_NAMES).filter(shows) {
-        let mut found = look_for(seed, &second()?.with_fault(name))?;
-        found.by_own_scripts = run::own_search(seed, name)?;
-        let shown = |first: Option<usize>| match first {
-            Some(number) => format!("script {number}"),
-            None => "not found".to_string(),
+    let names = NAMES.into_iter().chain(READING_NAMES).chain(ROUNDING_NAMES);
+    for (name, fault) in names.filter(shows) {
+        let found = look_for(seed, &second()?.with_fault(name))?;
+        // By demand 3, on scripts written while the faulty replicas run, so
+        // that the frames which only they send are delivered too.
+        let own = match is_of_law(fault) {
+            true => "its own law".to_string(),
+            false => shown(run::own_search(seed, name)?),
         };
         let (output, demand3) = (shown(found.by_output), shown(found.by_demand3));
-        let own = shown(found.by_own_scripts);
         println!("{name:<26}{output:>15}{demand3:>15}{own:>17}");
         all_found &= found.by_output.is_some();
     }
     Ok(all_found)
+}
+
+fn shown(first: Option<usize>) -> String {
+    match first {
+        Some(number) => format!("script {number}"),
+        None => "not found".to_string(),
+    }
+}
+
+/// Whether the check of demand 3 has the fault too where it runs in a process
+/// with it: its law is the second implementation's.
+fn is_of_law(fault: Fault) -> bool {
+    let of_rounding = ROUNDING_NAMES.iter().any(|(_, known)| *known == fault);
+    of_rounding || fault == Fault::RoundToZero
 }
 
 /// Whether scripts can show a fault: no script has a word for a reading at or
@@ -66,8 +78,7 @@ fn look_for(seed: u64, faulty: &Programs) -> Result<Found, String> {
 }
 
 /// The first script whose output demand 3 refuses, where generator, replicas
-/// and law all have the fault that is planted in this process. A fault of the
-/// law itself is therefore not found in this way.
+/// and law all have the fault that is planted in this process.
 pub fn own_search(seed: u64) -> Option<usize> {
     (1..=MOST_SCRIPTS).find(|&number| {
         let script = generator::script(seed, number, &mut Counts::default());

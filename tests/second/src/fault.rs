@@ -116,6 +116,18 @@ pub enum Fault {
     MissingPresent,
     /// 7 looks at the readings as they are handed, not converted.
     MarksUnconverted,
+    /// The law's divisions round toward minus infinity, as they did before.
+    FloorKept,
+    /// Ties of the law's divisions go up, toward plus infinity.
+    TiesUp,
+    /// Ties of the law's divisions go away from zero.
+    TiesAwayFromZero,
+    /// The division in e(j) alone rounds toward minus infinity.
+    FlooredPrediction,
+    /// The update's division alone rounds toward minus infinity.
+    FlooredUpdate,
+    /// The command's division alone rounds toward minus infinity.
+    FlooredCommand,
 }
 
 /// The faults that scripts must find, with their names in the environment
@@ -193,6 +205,16 @@ pub const READING_NAMES: [(&str, Fault); 9] = [
     ("marks_unconverted", Fault::MarksUnconverted),
 ];
 
+/// The faults of rounding that law calls and scripts must find.
+pub const ROUNDING_NAMES: [(&str, Fault); 6] = [
+    ("floor_kept", Fault::FloorKept),
+    ("ties_up", Fault::TiesUp),
+    ("ties_away_from_zero", Fault::TiesAwayFromZero),
+    ("floored_prediction", Fault::FlooredPrediction),
+    ("floored_update", Fault::FlooredUpdate),
+    ("floored_command", Fault::FlooredCommand),
+];
+
 static PLANTED: OnceLock<Fault> = OnceLock::new();
 
 /// Plants the fault that the environment names. Unset or empty: none. A name
@@ -203,7 +225,8 @@ pub fn plant_from_environment() -> Result<(), String> {
         return Ok(());
     }
     let of_calls = LAW_NAMES.iter().chain(&FRAME_NAMES).chain(&STEP_NAMES);
-    let mut known = NAMES.iter().chain(of_calls).chain(&READING_NAMES);
+    let of_requests = READING_NAMES.iter().chain(&ROUNDING_NAMES);
+    let mut known = NAMES.iter().chain(of_calls).chain(of_requests);
     let (_, fault) = known
         .find(|(known, _)| name == *known)
         .ok_or_else(|| format!("{VARIABLE}: no fault named {name:?}"))?;

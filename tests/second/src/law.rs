@@ -1,6 +1,9 @@
-//! Document 01, "Settings" (those of the law) and "The law".
+//! Document 01, "Settings" (those of the law) and "The law". Its divisions
+//! round as document 02's L2, "Rounding that creeps", has them.
 //!
 //! "The law's own calls refuse settings by 2 to 4 and refuse nothing else."
+
+use std::cmp::Ordering;
 
 use crate::fault::{planted, Fault};
 use crate::refusal::Refusal;
@@ -14,6 +17,8 @@ pub const LARGEST_COEFFICIENT: i32 = 16_777_216;
 
 /// "whole numbers in units of 1/65536"
 const UNIT: i64 = 65_536;
+
+const HALF: i64 = UNIT / 2;
 
 /// The state x; places beyond n are not looked at.
 pub type State = [i32; MAX_STATES];
@@ -151,9 +156,10 @@ pub fn update(settings: &Settings, x: &State, readings: &Readings) -> Result<Sta
     let mut next = State::default();
     for (i, value) in next[..n].iter_mut().enumerate() {
         let (of_x, of_e) = (dot(&settings.a[i][..n], x), dot(&settings.l[i][..m], &e));
-        *value = clamp(divide(of_x + of_e));
+        let divided = |sum| divide(sum, Fault::FlooredUpdate);
+        *value = clamp(divided(of_x + of_e));
         if planted(Fault::TwoDivisions) {
-            *value = clamp(divide(of_x) + divide(of_e));
+            *value = clamp(divided(of_x) + divided(of_e));
         }
     }
     Ok(next)
@@ -166,7 +172,8 @@ fn errors(settings: &Settings, x: &State, readings: &Readings) -> [i32; MAX_READ
     let mut e = [0; MAX_READINGS];
     for (j, error) in e[..m].iter_mut().enumerate() {
         if readings.is_present(j) || planted(Fault::AbsentReading) {
-            let expected = divide(dot(&settings.c[j][..n], x));
+            let of_x = dot(&settings.c[j][..n], x);
+            let expected = divide(of_x, Fault::FlooredPrediction);
             *error = clamp(i64::from(readings.values[j]) - expected);
         }
     }
@@ -180,7 +187,7 @@ pub fn command(settings: &Settings, x: &State) -> Result<Command, Refusal> {
     let (n, _, p) = sizes(settings);
     let mut command = Command::default();
     for (j, value) in command[..p].iter_mut().enumerate() {
-        let wanted = divide(dot(&settings.k[j][..n], x));
+        let wanted = divide(dot(&settings.k[j][..n], x), Fault::FlooredCommand);
         let own = if planted(Fault::FirstLimits) { 0 } else { j };
         *value = limit(wanted, settings.lower[own], settings.upper[own]);
     }
@@ -202,12 +209,46 @@ fn dot(coefficients: &[i32], values: &[i32]) -> i64 {
         .sum()
 }
 
-/// "Division rounds toward minus infinity."
-fn divide(sum: i64) -> i64 {
+/// One of the law's three divisions by 65536. Document 02: "From now on all
+/// three go to the nearest whole number, ties to the even one". The fault
+/// given is the one of this division alone.
+fn divide(sum: i64, alone: Fault) -> i64 {
+    if planted(Fault::FloorKept) || planted(alone) {
+        return sum.div_euclid(UNIT);
+    }
     if planted(Fault::RoundToZero) {
         return sum / UNIT;
     }
-    sum.div_euclid(UNIT)
+    nearest(sum)
+}
+
+/// Document 02: "to the nearest whole number, ties to the even one". The exact
+/// quotient lies at or above `below` and under the next whole number, and the
+/// remainder is how far above, in units of 1/65536. Of any i64 `below` is
+/// within 2^47 either way, so that the next one is far inside i64 too.
+fn nearest(sum: i64) -> i64 {
+    let (below, remainder) = (sum.div_euclid(UNIT), sum.rem_euclid(UNIT));
+    match remainder.cmp(&HALF) {
+        Ordering::Less => below,
+        Ordering::Equal => tied(below),
+        Ordering::Greater => below + 1,
+    }
+}
+
+/// Halfway between a whole number and the next one: "ties to the even one".
+fn tied(below: i64) -> i64 {
+    let mut stays = below.rem_euclid(2) == 0;
+    if planted(Fault::TiesUp) {
+        stays = false;
+    }
+    if planted(Fault::TiesAwayFromZero) {
+        stays = below < 0;
+    }
+    if stays {
+        below
+    } else {
+        below + 1
+    }
 }
 
 /// "Clamp means: into the i32 range."
@@ -243,10 +284,32 @@ mod tests {
     #[test]
     fn p1_to_p5() {
         assert_eq!(bench_update(0, Some(101)), 50);
-        assert_eq!(bench_update(0, Some(-101)), -51);
-        assert_eq!(bench_update(50, Some(101)), 75);
+        assert_eq!(bench_update(0, Some(-101)), -50);
+        assert_eq!(bench_update(50, Some(101)), 76);
         assert_eq!(bench_update(50, None), 50);
-        assert_eq!(bench_update(i32::MIN, Some(i32::MAX)), -1_073_741_825);
+        assert_eq!(bench_update(i32::MIN, Some(i32::MAX)), -1_073_741_824);
+    }
+
+    /// Document 02: "With bench settings and x 0, y 101 gives 50 and 103 gives
+    /// 52."
+    #[test]
+    fn ties_on_the_bench() {
+        let cases = [(97, 48), (99, 50), (101, 50), (103, 52), (105, 52), (1, 0)];
+        for (y, half) in cases {
+            assert_eq!(bench_update(0, Some(y)), half);
+            assert_eq!(bench_update(0, Some(-y)), -half);
+        }
+    }
+
+    /// Document 02: "A web at rest drifts slack". No longer: a reading one
+    /// above it moves it as far up as one below it moves it down.
+    #[test]
+    fn a_web_at_rest_leans_neither_way() {
+        for rest in -51..=51 {
+            let up = bench_update(rest, Some(rest + 1)) - rest;
+            let down = rest - bench_update(rest, Some(rest - 1));
+            assert_eq!((up, down), (rest.abs() % 2, rest.abs() % 2));
+        }
     }
 
     #[test]
@@ -315,12 +378,115 @@ mod tests {
 
     #[test]
     fn division_is_exact_around_zero() {
-        let cases = [(-65_537, -2), (-65_536, -1), (-1, -1), (0, 0), (1, 0)];
+        let cases = [(0, 0), (1, 0), (65_535, 1), (65_536, 1), (65_537, 1)];
         for (sum, quotient) in cases {
-            assert_eq!(divide(sum), quotient);
+            assert_eq!(nearest(sum), quotient);
+            assert_eq!(nearest(-sum), -quotient);
         }
-        assert_eq!(divide(65_535), 0);
-        assert_eq!(divide(65_536), 1);
+    }
+
+    #[test]
+    fn ties_go_to_the_even_one() {
+        // The tie, and the quotients one below it, at it and one above it.
+        let cases = [
+            (32_768, [0, 0, 1]),
+            (98_304, [1, 2, 2]),
+            (163_840, [2, 2, 3]),
+            (229_376, [3, 4, 4]),
+            (-32_768, [-1, 0, 0]),
+            (-98_304, [-2, -2, -1]),
+            (-163_840, [-3, -2, -2]),
+            (-229_376, [-4, -4, -3]),
+        ];
+        for (tie, quotients) in cases {
+            assert_eq!([tie - 1, tie, tie + 1].map(nearest), quotients, "{tie}");
+        }
+    }
+
+    #[test]
+    fn division_is_exact_at_both_ends() {
+        let end = 140_737_488_355_328;
+        assert_eq!(nearest(i64::MIN), -end);
+        assert_eq!(nearest(i64::MAX), end);
+        // The last ties, which go to the ends, and the sums beside them.
+        let tie = i64::MIN + 32_768;
+        let quotients = [-end, -end, -end + 1];
+        assert_eq!([tie - 1, tie, tie + 1].map(nearest), quotients);
+        let tie = i64::MAX - 32_767;
+        let quotients = [end - 1, end, end];
+        assert_eq!([tie - 1, tie, tie + 1].map(nearest), quotients);
+    }
+
+    /// What the words mean: no whole number is nearer, and at a half the
+    /// quotient is even.
+    fn assert_nearest(sum: i64) {
+        let quotient = i128::from(nearest(sum));
+        let distance = (i128::from(sum) - 65_536 * quotient).abs();
+        assert!(distance <= 32_768, "{sum}");
+        assert!(distance < 32_768 || quotient % 2 == 0, "{sum}");
+    }
+
+    #[test]
+    fn division_is_what_its_words_mean() {
+        (-200_000..=200_000).for_each(assert_nearest);
+        (i64::MIN..=i64::MIN + 100_000).for_each(assert_nearest);
+        (i64::MAX - 100_000..=i64::MAX).for_each(assert_nearest);
+        // Beside ties of all sizes, of both signs.
+        for size in 17..63 {
+            for nth in 0..64 {
+                let tie = (1_i64 << size) + 65_536 * nth + 32_768;
+                for sum in tie - 20..=tie + 20 {
+                    assert_nearest(sum);
+                    assert_nearest(-sum);
+                }
+            }
+        }
+    }
+
+    #[test]
+    fn all_three_divisions_are_to_the_nearest() {
+        let mut settings = bench_settings();
+        let missing = Readings::default();
+        let zero = Readings {
+            marks: 1,
+            ..missing
+        };
+        // 0.75 of x and halves of it, by each of the three tables.
+        let cases = [
+            (49_152, 1, 1),
+            (49_152, -1, -1),
+            (32_768, 1, 0),
+            (32_768, 3, 2),
+            (32_768, 5, 2),
+            (32_768, -1, 0),
+            (32_768, -3, -2),
+            (32_768, -5, -2),
+        ];
+        for (gain, x, quotient) in cases {
+            settings.a[0][0] = gain;
+            settings.c[0][0] = gain;
+            settings.k[0][0] = gain;
+            let x = [x, 0, 0, 0, 0, 0];
+            assert_eq!(errors(&settings, &x, &zero), [-quotient, 0, 0, 0]);
+            let updated = [quotient, 0, 0, 0, 0, 0];
+            assert_eq!(update(&settings, &x, &missing), Ok(updated));
+            assert_eq!(command(&settings, &x), Ok([quotient, 0, 0, 0]));
+        }
+    }
+
+    #[test]
+    fn a_prediction_is_rounded_before_the_reading_comes_in() {
+        let mut settings = bench_settings();
+        settings.c[0][0] = 32_768;
+        let readings = Readings {
+            marks: 1,
+            values: [1; 4],
+        };
+        // Half of 1 goes to 0 and half of 3 to 2; 1 − 0.5 and 1 − 1.5 would
+        // both go to 0.
+        for (x, error) in [(1, 1), (3, -1)] {
+            assert_eq!(errors(&settings, &[x; 6], &readings)[0], error);
+        }
     }
 
     #[test]
@@ -349,7 +515,8 @@ mod tests {
             marks: 1,
             values: [2; 4],
         };
-        // 32768 × 1 + 32768 × (2 − 1) is one whole unit.
+        // 32768 × 1 + 32768 × (2 − 1) is one whole unit; each half of it
+        // would go to 0.
         assert_eq!(
             update(&settings, &[1; 6], &readings),
             Ok([1, 0, 0, 0, 0, 0])

@@ -4,6 +4,8 @@
 use std::io::Write;
 use std::process::{Command, Output, Stdio};
 
+use second::fault::ROUNDING_NAMES;
+
 const BENCH: &str = env!("CARGO_BIN_EXE_bench");
 const RIG: &str = env!("CARGO_BIN_EXE_rig");
 
@@ -165,8 +167,18 @@ fn command_before_shows() {
 
 #[test]
 fn round_to_zero_shows() {
-    let input = "T 1 -101\nT 1 -\n";
-    assert_shows(BENCH, "round_to_zero", input, 2, "2 1 ok 2 0 0 2 -50 2 -");
+    // −51.5: the even one, −52, is further from zero.
+    let input = "T 1 -103\nT 1 -\n";
+    assert_eq!(lines(BENCH, "", input)[2], "2 1 ok 2 0 0 2 -52 2 -");
+    assert_shows(BENCH, "round_to_zero", input, 2, "2 1 ok 2 0 0 2 -51 2 -");
+}
+
+#[test]
+fn two_divisions_shows() {
+    // Half of 1 and half of 2 − 1.
+    let input = decided_on_the_rig("32768 32768 65536 65536", 1, 2);
+    assert_eq!(lines(RIG, "", &input)[4], "4 1 ok 1 0 0 1 1 4 1");
+    assert_shows(RIG, "two_divisions", &input, 4, "4 1 ok 1 0 0 1 1 4 0");
 }
 
 #[test]
@@ -247,4 +259,112 @@ fn missing_present_shows() {
     let input = reading_on_the_rig(7, "1");
     let row = "1 2 r7 0 0 0 0 7 - -";
     assert_shows(RIG, "missing_present", &input, 1, row);
+}
+
+/// A period that is decided with the gains A, L, C and K and one reading:
+/// line 4 has the command of the start's update.
+fn decided_on_the_rig(gains: &str, start: i32, reading: i32) -> String {
+    let settings = format!("1 1 1 {gains} -2147483648 2147483647 {start}");
+    format!("rig 3 {settings}\nT 1 {reading}\nT 2 -\nD 2 1\nD 1 3\n")
+}
+
+/// The fault shows on line 4, and none of these others shows at all.
+fn assert_shows_without(others: &[&str], fault: &str, input: &str, right: &str, wrong: &str) {
+    let rows = lines(RIG, "", input);
+    assert_eq!(rows[4], right, "{fault}");
+    assert_shows(RIG, fault, input, 4, wrong);
+    for other in others.iter().filter(|&&other| other != fault) {
+        assert_eq!(lines(RIG, other, input), rows, "{other} for {fault}");
+    }
+}
+
+/// Of all faults of rounding this one alone shows.
+fn assert_rounding_shows(fault: &str, input: &str, right: &str, wrong: &str) {
+    let all = ROUNDING_NAMES.map(|(name, _)| name);
+    assert_shows_without(&all, fault, input, right, wrong);
+}
+
+#[test]
+fn floor_kept_shows() {
+    // The state is −4.25 and the command a quarter of it. Of −4 or of −5 the
+    // nearest is −1; only both floors come to −2.
+    let input = decided_on_the_rig("65536 16384 65536 16384", 0, -17);
+    let (right, wrong) = ("4 1 ok 1 0 0 1 0 4 -1", "4 1 ok 1 0 0 1 0 4 -2");
+    assert_rounding_shows("floor_kept", &input, right, wrong);
+    // The case P2, as document 01 had it.
+    let input = "T 1 -101\nT 1 -\n";
+    assert_eq!(lines(BENCH, "", input)[2], "2 1 ok 2 0 0 2 -50 2 -");
+    assert_shows(BENCH, "floor_kept", input, 2, "2 1 ok 2 0 0 2 -51 2 -");
+}
+
+#[test]
+fn ties_up_shows() {
+    // −51.5: the even one is further from zero, as the floor is.
+    let input = decided_on_the_rig("65536 32768 65536 65536", 0, -103);
+    let (right, wrong) = ("4 1 ok 1 0 0 1 0 4 -52", "4 1 ok 1 0 0 1 0 4 -51");
+    assert_rounding_shows("ties_up", &input, right, wrong);
+    let input = "T 1 101\nT 1 -\n";
+    assert_eq!(lines(BENCH, "", input)[2], "2 1 ok 2 0 0 2 50 2 -");
+    assert_shows(BENCH, "ties_up", input, 2, "2 1 ok 2 0 0 2 51 2 -");
+}
+
+#[test]
+fn ties_away_from_zero_shows() {
+    // 50.5, of which the command is minus a half: −25 of 50. With 51 it is a
+    // tie again, which goes up to −25 or away from zero.
+    let input = decided_on_the_rig("65536 32768 65536 -32768", 0, 101);
+    let (right, wrong) = ("4 1 ok 1 0 0 1 0 4 -25", "4 1 ok 1 0 0 1 0 4 -26");
+    assert_rounding_shows("ties_away_from_zero", &input, right, wrong);
+    let input = "T 1 101\nT 1 -\n";
+    assert_eq!(lines(BENCH, "", input)[2], "2 1 ok 2 0 0 2 50 2 -");
+    let row = "2 1 ok 2 0 0 2 51 2 -";
+    assert_shows(BENCH, "ties_away_from_zero", input, 2, row);
+}
+
+#[test]
+fn floored_prediction_shows() {
+    // 0.75 is predicted: e(1) is 1 − 1, or 1 − 0 by the floor. So the state is
+    // 0.25 or 0.75, which the nearest alone tells apart.
+    let input = decided_on_the_rig("16384 32768 49152 65536", 1, 1);
+    let (right, wrong) = ("4 1 ok 1 0 0 1 1 4 0", "4 1 ok 1 0 0 1 1 4 1");
+    assert_rounding_shows("floored_prediction", &input, right, wrong);
+}
+
+#[test]
+fn floored_update_shows() {
+    // As above, but the state is 0.75 or 1.25: 1, but for the floor of 0.75.
+    let input = decided_on_the_rig("49152 32768 49152 65536", 1, 1);
+    let (right, wrong) = ("4 1 ok 1 0 0 1 1 4 1", "4 1 ok 1 0 0 1 1 4 0");
+    assert_rounding_shows("floored_update", &input, right, wrong);
+}
+
+#[test]
+fn floored_command_shows() {
+    // The state is 0.75, the command minus a quarter of 1, or of 0 by the
+    // floor: 0, but for the floor of −0.25.
+    let input = decided_on_the_rig("65536 49152 65536 -16384", 0, 1);
+    let (right, wrong) = ("4 1 ok 1 0 0 1 0 4 0", "4 1 ok 1 0 0 1 0 4 -1");
+    assert_rounding_shows("floored_command", &input, right, wrong);
+    // The state is the same.
+    let next = format!("{input}T 1 -\n");
+    let row = "5 1 ok 2 0 0 2 1 5 -";
+    assert_eq!(lines(RIG, "", &next)[5], row);
+    assert_eq!(lines(RIG, "floored_command", &next)[5], row);
+}
+
+#[test]
+fn faults_of_single_divisions_show() {
+    // Of the three divisions one alone has a remainder: its quotient is 0.75.
+    let cases = [
+        ("floored_prediction", "65536 65536 49152 65536", 1, 1, 2),
+        ("floored_update", "65536 49152 65536 65536", 0, 1, 0),
+        ("floored_command", "65536 65536 65536 49152", 0, 1, 0),
+    ];
+    let names = cases.map(|(fault, ..)| fault);
+    for (fault, gains, start, right, wrong) in cases {
+        let input = decided_on_the_rig(gains, start, 1);
+        let row = |command: i32| format!("4 1 ok 1 0 0 1 {start} 4 {command}");
+        assert_shows_without(&names, fault, &input, &row(right), &row(wrong));
+        assert_shows(RIG, "floor_kept", &input, 4, &row(wrong));
+    }
 }

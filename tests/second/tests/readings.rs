@@ -217,6 +217,25 @@ fn a_single_is_taken_as_the_count_of_the_same_value() {
     }
 }
 
+/// L2: "L1's conversion keeps its rule", toward minus infinity, whatever the
+/// law's divisions do.
+#[test]
+fn the_conversion_keeps_its_rule() {
+    let cases = [
+        (0.75, 0),
+        (1.5, 1),
+        (2.5, 2),
+        (-0.25, -1),
+        (-0.5, -1),
+        (-2.5, -3),
+    ];
+    for (units, value) in cases {
+        let row = row_at(0, Newtons(units * ONE_UNIT));
+        let taken = tick(fresh(1, 1), &row).replica.estimate.readings;
+        assert_eq!((taken.marks, taken.values[0]), (1, value), "{units}");
+    }
+}
+
 // The planted faults.
 
 /// Where a fault would break the plain case of another, the case compares two

@@ -329,8 +329,8 @@ fn a_tick_takes_the_readings_as_the_law_reads_them() {
         period: 8,
         estimate: Estimate {
             // x1 + x2 is 30; of the readings, 1 counts: e(1) = 1 − 30, and
-            // half of it, rounded toward minus infinity, is −15.
-            state: [15, 15, 0, 0, 0, 0],
+            // 30 with half of it is 15.5, a tie: the even one is 16.
+            state: [16, 16, 0, 0, 0, 0],
             readings: Readings {
                 marks: 0b10,
                 values: [0, 6, 0, 0],

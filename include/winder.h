@@ -1,6 +1,6 @@
 /*
- * The controller law of a winder in fixed point, the conversion of readings for it, the frames that its boxes send each other, and their
- * commands: crate winder as a static library.
+ * The controller law of a winder in fixed point, the conversion of readings for it, the frames that its boxes send each other, their
+ * commands, and the shift page of what they did: crate winder as a static library.
  *
  * Sizes. A controller has n states (1 to 6), m readings and p commands (each 1 to 4). Every area is as long as its prototype says,
  * whatever n, m and p are; places beyond n, m and p are not looked at.
@@ -16,7 +16,7 @@
  *
  * Asked of the caller: no pointer is null, not even one with the length 0; and an area that a call writes overlaps no other area of
  * that call. Nothing else is asked: any numbers may stand in the areas. The functions keep nothing between calls, and of the C library
- * they call memcpy alone.
+ * they call memcpy and memset alone.
  */
 #ifndef WINDER_H
 #define WINDER_H
@@ -28,8 +28,8 @@
  * The version: major version times 100, and minor version. A further call makes a new minor version; a call that is gone or means
  * something else makes a new major one. winder_version says for which version the archive was made.
  */
-#define WINDER_VERSION 101
-#define WINDER_VERSION_TEXT "1.1"
+#define WINDER_VERSION 102
+#define WINDER_VERSION_TEXT "1.2"
 
 /* The most states, readings and commands; the least of each is 1. */
 #define WINDER_STATES_MAX 6
@@ -42,6 +42,11 @@
 /* The longest frame, which a frame area must have room for whatever the length of the frame; and the longest command. */
 #define WINDER_FRAME_AREA 69
 #define WINDER_COMMAND_AREA 24
+
+/* The words of an entry of a shift page, the most lines, and the longest page, which a page area must have room for whatever the page has. */
+#define WINDER_ENTRY_WORDS 7
+#define WINDER_PAGE_LINES 60
+#define WINDER_PAGE_AREA 4380
 
 /* The kinds of frames. */
 enum winder_kind {
@@ -56,7 +61,9 @@ enum winder_refusal {
     WINDER_REFUSED_COEFFICIENT = 3, /* a coefficient outside its range */
     WINDER_REFUSED_LIMITS = 4,      /* a lower limit above its upper */
     WINDER_REFUSED_AREA = 5,        /* a frame area under 69 bytes */
-    WINDER_REFUSED_FRAME = 8        /* no frame: length, kind, part count, byte 3, pairs, marks or absent values; or no command */
+    WINDER_REFUSED_FRAME = 8,       /* no frame: length, kind, part count, byte 3, pairs, marks or absent values; or no command */
+    WINDER_REFUSED_PAGE_AREA = 13,  /* a page area under 4,380 bytes */
+    WINDER_REFUSED_PERIODS = 14     /* more than 60 distinct periods */
 };
 
 /* What the law is given once: sizes, tables and limits. */
@@ -237,6 +244,28 @@ uint32_t winder_read_command(
     size_t bytes_length,
     uint32_t *period,
     int32_t commands[4]);
+
+/*
+ * Writes a shift page to the start of an area: a line for each period, in rising order, of 72 bytes and a line feed. Columns from 0: the
+ * period right-aligned in 0 to 9, the view in 11 to 20, command j in 22 + 12 * j to 33 + 12 * j, spaces elsewhere. A period without a
+ * command has a hyphen in column 33.
+ *
+ * entries holds WINDER_ENTRY_WORDS words for each entry, in the order given: period, view, 0 where there is no command and anything else
+ * where there is one, then four values, each an int32_t cast to uint32_t, of which the first p count. entries_length is the number of
+ * words; words that are left over are no entry. Any number of entries is taken. Of the entries of one period the first with a command
+ * stands on the page, else the first.
+ *
+ * Out: area starts with the page, and bytes after it keep what they held; *length is the page's length, 73 for each line.
+ *
+ * Refuses by 2 for p, then by 13 for an area_length under 4,380, then by 14 for more than 60 distinct periods.
+ */
+uint32_t winder_write_page(
+    size_t p,
+    const uint32_t *entries,
+    size_t entries_length,
+    uint8_t *area,
+    size_t area_length,
+    size_t *length);
 
 #ifdef __cplusplus
 }

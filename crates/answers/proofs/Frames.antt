@@ -2,8 +2,7 @@
 use mathlib.Core.Path.{_≡_, refl, sym, ap, _∙_}
 use mathlib.Core.Logic.{inl}
 use mathlib.Core.List.{List, []}
-use Prim.Native.Nat.{ℕ, zero, suc, _-_}
-use native.Mathlib.Omega.{arith}
+use Prim.Native.Nat.{ℕ}
 use lib.Dec.{T}
 use lib.ListN.{length}
 use lib.IntN.{ℤ}
@@ -24,12 +23,7 @@ use Rattle.winder.proofs.Refused.{refused}
 use Rattle.answers.specs.Answers.{numbered, reading, writing, writingCommand}
 use Rattle.answers.specs.Kept.{WriteKept, FrameAreas, CommandAreas, WriteAreas}
 use Rattle.answers.specs.Demand1.{ReadAnswers, ReadCommandAnswers, WriteAnswers, ReadAreaAnswers, ReadCommandAreaAnswers, WriteAreaAnswers}
-use Rattle.answers.proofs.Numbers.{allListed, first-in, answers}
-
--- a number that is not 0, as the frames' laws want it
-positive : (number : ℕ) → (number ≡ 0 → ⊥) → number ≡ suc (number - 1)
-positive zero z = absurd (z refl)
-positive (suc k) z = omega arith
+use Rattle.answers.proofs.Numbers.{allListed, first-in, answers, positive}
 
 -- an area of a refused call
 left : {A : Type 0} (number : ℕ) (area′ given held : A) → (number ≡ 0 → ⊥) → area′ ≡ unlessRefused number given held → area′ ≡ held

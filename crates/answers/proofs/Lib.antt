@@ -4,4 +4,5 @@ mod Outcomes
 mod Replica
 mod Law
 mod Frames
+mod Pages
 pub mod Theorem

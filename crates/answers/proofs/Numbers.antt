@@ -1,10 +1,11 @@
--- Laws of answers: an answer of a call's list is one of document 01's, and what the first refusal of a place answers is in a list that has the
+-- Laws of answers: an answer of a call's list is one of the documents', and what the first refusal of a place answers is in a list that has the
 -- numbers of its rows. Assumes nothing.
-use mathlib.Core.Path.{_≡_, sym, ap, subst}
+use mathlib.Core.Path.{_≡_, refl, sym, ap, subst}
 use mathlib.Core.Logic.{_⊎_, inl, inr, _≢_}
 use mathlib.Core.Bool.{Bool, true, false, not, _&&_, _||_}
 use mathlib.Core.List.{List, [], _∷_}
-use Prim.Native.Nat.{ℕ}
+use Prim.Native.Nat.{ℕ, zero, suc, _-_}
+use native.Mathlib.Omega.{arith}
 use lib.Dec.{T, eqb, leb, eqb→eq, leb→le}
 use Rattle.lists.specs.Choice.{pick}
 use Rattle.lists.specs.Refusals.{Refusal, firstOf}
@@ -14,13 +15,13 @@ use Rattle.scram.specs.Answers.{Answered, Done, Ignored, Refused}
 use Rattle.scram.specs.History.{In}
 use Rattle.answers.specs.Answers.{Answers, Listed, numbered}
 
--- ---- every answer of a list is one of document 01's
+-- ---- every answer of a list is one of the documents'
 
 abbrev pub allListed : List Answered → Bool
 allListed [] = true
 allListed (Done ∷ l) = allListed l
 allListed (Ignored ∷ l) = allListed l
-allListed (Refused number ∷ l) = leb 1 number && (leb number 12 && allListed l)
+allListed (Refused number ∷ l) = leb 1 number && (leb number 14 && allListed l)
 
 pub listed : (possible : List Answered) → T (allListed possible) → (a : Answered) → In a possible → Listed a
 listed [] t a i = absurd i
@@ -30,8 +31,8 @@ listed (Ignored ∷ l) t a (inl e) = subst Listed (sym e) tt
 listed (Ignored ∷ l) t a (inr i) = listed l t a i
 listed (Refused number ∷ l) t a (inl e) =
     subst Listed (sym e)
-    (leb→le 1 number (and-left (leb 1 number) _ t), leb→le number 12 (and-left (leb number 12) (allListed l) (and-right (leb 1 number) _ t)))
-listed (Refused number ∷ l) t a (inr i) = listed l (and-right (leb number 12) (allListed l) (and-right (leb 1 number) _ t)) a i
+    (leb→le 1 number (and-left (leb 1 number) _ t), leb→le number 14 (and-left (leb number 14) (allListed l) (and-right (leb 1 number) _ t)))
+listed (Refused number ∷ l) t a (inr i) = listed l (and-right (leb number 14) (allListed l) (and-right (leb 1 number) _ t)) a i
 
 -- ---- a number that a list has
 
@@ -81,6 +82,11 @@ refusal-in possible number t i =
 pub not-zero : (number : ℕ) → numbered number ≢ Done → number ≡ 0 → ⊥
 unfolding pick
 not-zero number n e = n (ap numbered e)
+
+-- a number that is not 0, as the laws of what a refused call gives want it
+pub positive : (number : ℕ) → (number ≡ 0 → ⊥) → number ≡ suc (number - 1)
+positive zero z = absurd (z refl)
+positive (suc k) z = omega arith
 
 -- `number` is what the call answers, and `refused` is its definition
 pub answers : (possible : List Answered) → T (allListed possible) → (number refused : ℕ) → number ≡ refused → In (numbered refused) possible

@@ -1,12 +1,14 @@
 -- Demand 1 holds of every call. Assumes nothing.
 use Rattle.transmitters.specs.Conversion.{convertedRow}
 use Rattle.law.specs.Settings.{settingsOf}
+use Rattle.pages.specs.Entries.{entriesOf}
 use Rattle.winder.specs.FrameAreas.{frameOf}
 use Rattle.answers.specs.Demand1.{DemandOne}
 use Rattle.answers.proofs.Replica.{make-answers, tick-call, give-up-call, arrive-call}
 use Rattle.answers.proofs.Law.{check-answers, update-answers, commanded-answers, issued-answers, update-area-answers, command-area-answers}
 use Rattle.answers.proofs.Frames.{read-answers, read-area-answers, read-command-answers, read-command-area-answers}
 use Rattle.answers.proofs.Frames.{write-answers, write-area-answers, write-command-answers}
+use Rattle.answers.proofs.Pages.{write-page-answers, read-page-answers, write-page-area-answers}
 
 -- demand 1
 pub demand-1 : DemandOne
@@ -26,9 +28,12 @@ demand-1 = record {
   write = write-answers;
   write-command = write-command-answers;
   read-command = read-command-answers;
+  write-page = λ p words. write-page-answers p (entriesOf words);
+  read-page = read-page-answers;
   winder-update = λ n m p a l c k low high. update-area-answers (settingsOf n m p a l c k low high);
   winder-command = λ n m p a l c k low high. command-area-answers (settingsOf n m p a l c k low high);
   winder-read-frame = read-area-answers;
   winder-read-command = read-command-area-answers;
   winder-write-frame = λ n m kindAndSender counters state present values. write-area-answers n m (frameOf kindAndSender counters state present values);
+  winder-write-page = λ p entries. write-page-area-answers p (entriesOf entries);
 }

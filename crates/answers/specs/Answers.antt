@@ -64,17 +64,25 @@ writing = Done ∷ map Refused (2 ∷ 5 ∷ 8 ∷ [])
 abbrev pub writingCommand : List Answered
 writingCommand = Done ∷ map Refused (2 ∷ 5 ∷ [])
 
+-- writing a shift page, of document 02: 2 for p, 13 for its area, 14 for more than 60 distinct periods
+abbrev pub writingPage : List Answered
+writingPage = Done ∷ map Refused (2 ∷ 13 ∷ 14 ∷ [])
+
+-- reading it back: 2 for p, 14 for a page that no writing gives
+abbrev pub readingPage : List Answered
+readingPage = Done ∷ map Refused (2 ∷ 14 ∷ [])
+
 -- ---- the claim about one call
 
 -- a number as an answer: 0 is "what was called for", another number is that refusal
 abbrev pub numbered : ℕ → Answered
 numbered number = pick (eqb number 0) Done (Refused number)
 
--- "what was called for, an event ignored, or one of the numbered refusals"; the table has the numbers 1 to 12
+-- "what was called for, an event ignored, or one of the numbered refusals"; the table has the numbers 1 to 12, which document 02's 13 and 14 join
 abbrev pub Listed : Answered → Type 0
 Listed Done = Unit {0}
 Listed Ignored = Unit {0}
-Listed (Refused number) = (1 ≤ number) × (number ≤ 12)
+Listed (Refused number) = (1 ≤ number) × (number ≤ 14)
 
 -- "Every call, with all inputs, answers: what was called for, an event ignored, or one of the numbered refusals. Ignored or refused, the replica and
 -- each lent area hold what they held." `possible` are the answers of this call, and `Kept` says what holds what it held

@@ -4,7 +4,7 @@
 -- not named, since nothing can write them. A call that refuses nothing and ignores nothing, as winder_convert_single, has no answer to speak of.
 use Prim.Native.Nat.{ℕ}
 use mathlib.Core.Path.{_≡_}
-use mathlib.Core.List.{List}
+use mathlib.Core.List.{List, []}
 use lib.ListN.{length, replicate}
 use lib.IntN.{ℤ, pos}
 use Rattle.readings.specs.declared.Readings.{Readings}
@@ -29,7 +29,15 @@ use Rattle.frame.specs.Reading.{readRefusal, readFrame}
 use Rattle.frame.specs.Writing.{writeRefusal, written}
 use Rattle.frame.specs.Command.{commandRefusal, commandWritten}
 use Rattle.frame.specs.CommandReading.{readCommandRefusal, readCommand, noCommand}
+use Rattle.pages.specs.declared.entries.Entry.{Entry}
+use Rattle.pages.specs.declared.reading.PageRead.{PageRead}
+use Rattle.pages.specs.declared.writing.Written.{Written as PageWritten}
+use Rattle.pages.specs.Answers.{number as pageNumber}
+use Rattle.pages.specs.Entries.{entriesOf}
+use Rattle.pages.specs.Writing.{writeRefusal as pageRefusal, written as pageWritten}
+use Rattle.pages.specs.Reading.{readRefusal as readPageRefusal, readEntries, pageOf}
 use Rattle.winder.specs.Areas.{unlessRefused}
+use Rattle.winder.specs.PageAreas.{lengthAfter as pageLengthAfter}
 use Rattle.winder.specs.LawAreas.{readingsOf, commandsAfter}
 use Rattle.winder.specs.FrameAreas.{frameOf, kindAndSenderOf, countersOf, marksOf, lengthAfter}
 use Rattle.replica.specs.declared.Settings.{Settings}
@@ -37,8 +45,8 @@ use Rattle.replica.specs.declared.Replica.{Replica}
 use Rattle.replica.specs.declared.Made.{Made}
 use Rattle.replica.specs.declared.Stepped.{Stepped}
 use Rattle.replica.specs.Calls.{Outcomes, Gives, tickOutcome, giveUpOutcome, arriveOutcome, madeAnswer, made}
-use Rattle.answers.specs.Answers.{Answers, numbered, making, ticking, givingUp, arriving, usingLaw, reading, writing, writingCommand}
-use Rattle.answers.specs.Kept.{StepKept, NoReplica, WriteKept, FrameAreas, CommandAreas, WriteAreas}
+use Rattle.answers.specs.Answers.{Answers, numbered, making, ticking, givingUp, arriving, usingLaw, reading, writing, writingCommand, writingPage, readingPage}
+use Rattle.answers.specs.Kept.{StepKept, NoReplica, WriteKept, PageKept, FrameAreas, CommandAreas, WriteAreas}
 
 -- ---- the replica's calls
 
@@ -91,6 +99,21 @@ WriteAnswers possible refused bytes area =
     (r : Written) (area′ : List ℕ) → number (r .answer) ≡ refused → r .length ≡ length bytes → area′ ≡ over bytes area
     → Answers possible (numbered (number (r .answer))) (WriteKept r area area′)
 
+-- ---- the shift page's calls
+
+-- writing: `entries` are those in the caller's words
+abbrev pub WritePageAnswers : (p : ℕ) → List Entry → (area : List ℕ) → Type 0
+WritePageAnswers p entries area =
+    (r : PageWritten) (area′ : List ℕ) → pageNumber (r .answer) ≡ pageRefusal p entries area → r .length ≡ length (pageWritten p entries area)
+    → area′ ≡ over (pageWritten p entries area) area
+    → Answers writingPage (numbered (pageNumber (r .answer))) (PageKept r area area′)
+
+-- reading it back: refused, the page has no lines
+abbrev pub ReadPageAnswers : (p : ℕ) → List ℕ → Type 0
+ReadPageAnswers p bytes =
+    (r : PageRead) → pageNumber (r .answer) ≡ readPageRefusal p bytes → r .page ≡ pageOf (readEntries p bytes)
+    → Answers readingPage (numbered (pageNumber (r .answer))) (r .page ≡ pageOf [])
+
 -- ---- the calls of C programs: they answer by the number alone
 
 -- winder_update
@@ -130,6 +153,14 @@ WriteAreaAnswers n m f areas =
     → areas′ .length ≡ lengthAfter n m f (areas .area) (areas .length)
     → Answers writing (numbered r) (areas′ ≡ areas)
 
+-- winder_write_page, of the entries in the words that the caller lends to read
+abbrev pub WritePageAreaAnswers : (p : ℕ) → List Entry → WriteAreas → Type 0
+WritePageAreaAnswers p entries areas =
+    (r : ℕ) (areas′ : WriteAreas) → r ≡ pageRefusal p entries (areas .area)
+    → areas′ .area ≡ over (pageWritten p entries (areas .area)) (areas .area)
+    → areas′ .length ≡ pageLengthAfter p entries (areas .area) (areas .length)
+    → Answers writingPage (numbered r) (areas′ ≡ areas)
+
 -- ---- demand 1: every call, with all inputs
 
 pub record DemandOne : Type 0 where
@@ -158,6 +189,9 @@ pub record DemandOne : Type 0 where
   pub write-command : (p period : ℕ) (values : List ℤ) (area : List ℕ)
       → WriteAnswers writingCommand (commandRefusal p area) (commandWritten p period values area) area
   pub read-command : (p : ℕ) (bytes : List ℕ) → ReadCommandAnswers p bytes
+  -- crate pages
+  pub write-page : (p : ℕ) (words area : List ℕ) → WritePageAnswers p (entriesOf words) area
+  pub read-page : (p : ℕ) (bytes : List ℕ) → ReadPageAnswers p bytes
   -- crate winder
   pub winder-update : (n m p : ℕ) (a l c k low high : List ℤ) (present : List ℕ) (values state : List ℤ)
       → UpdateAreaAnswers (settingsOf n m p a l c k low high) present values state
@@ -167,3 +201,4 @@ pub record DemandOne : Type 0 where
   pub winder-read-command : (p : ℕ) (bytes : List ℕ) (areas : CommandAreas) → ReadCommandAreaAnswers p bytes areas
   pub winder-write-frame : (n m : ℕ) (kindAndSender counters : List ℕ) (state : List ℤ) (present : List ℕ) (values : List ℤ) (areas : WriteAreas)
       → WriteAreaAnswers n m (frameOf kindAndSender counters state present values) areas
+  pub winder-write-page : (p : ℕ) (entries : List ℕ) (areas : WriteAreas) → WritePageAreaAnswers p (entriesOf entries) areas

@@ -6,6 +6,7 @@ use lib.IntN.{ℤ}
 use Rattle.readings.specs.declared.Readings.{Readings}
 use Rattle.scram.specs.Answers.{Refused}
 use Rattle.frame.specs.declared.Written.{Written}
+use Rattle.pages.specs.declared.writing.Written.{Written as PageWritten}
 use Rattle.replica.specs.declared.Replica.{Replica}
 use Rattle.replica.specs.declared.Stepped.{Stepped}
 use Rattle.replica.specs.Calls.{tickOutcome, giveUpOutcome, arriveOutcome}
@@ -33,6 +34,11 @@ pub record WriteKept (r : Written) (area area′ : List ℕ) : Type 0 where
   pub lent-area : area′ ≡ area
   pub no-bytes : r .length ≡ 0
 
+-- a write of a shift page, in the same way
+pub record PageKept (r : PageWritten) (area area′ : List ℕ) : Type 0 where
+  pub lent-area : area′ ≡ area
+  pub no-bytes : r .length ≡ 0
+
 -- ---- a C caller's areas
 
 -- the five areas that a frame is read to
@@ -48,7 +54,7 @@ pub record CommandAreas : Type 0 where
   pub period : ℕ
   pub commands : List ℤ
 
--- the area that a frame is written to, and the caller's number for its length
+-- the area that a frame or a page is written to, and the caller's number for its length
 pub record WriteAreas : Type 0 where
   pub area : List ℕ
   pub length : ℕ

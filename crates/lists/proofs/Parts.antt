@@ -1,7 +1,7 @@
--- Laws of parts of a list: what lies after an offset, and the first places. Assumes nothing.
+-- Laws of parts of a list: what lies after an offset, the first places, and what stands at one. Assumes nothing.
 use mathlib.Core.Path.{_≡_, refl, sym, _∙_}
 use mathlib.Core.List.{List, [], _∷_}
-use Prim.Native.Nat.{ℕ, zero, suc, _-_, _≤_}
+use Prim.Native.Nat.{ℕ, zero, suc, _-_, _≤_, _<_}
 use native.Mathlib.Omega.{arith}
 use native.Mathlib.Decide.{decLe}
 use lib.ListN.{length, take, drop, getD, length-drop}
@@ -39,6 +39,12 @@ module _ {A : Type 0} where
       by (no h) =
           let l : places ≤ n = omega (arith, h) in
           rw (z, many l) (take-all places values (omega arith) ∙ sym (take-all n values (omega arith)))
+
+-- what stands at a place that is there
+pub getD-any : {A : Type 0} (xs : List A) (i : ℕ) (d e : A) → i < length xs → getD xs i d ≡ getD xs i e
+getD-any [] i d e h = absurd (omega arith)
+getD-any (x ∷ xs) zero d e h = refl
+getD-any (x ∷ xs) (suc i) d e h = getD-any xs i d e (omega arith)
 
 pub getD-beyond : (xs : List ℕ) (i : ℕ) → length xs ≤ i → getD xs i 0 ≡ 0
 getD-beyond [] i h = refl

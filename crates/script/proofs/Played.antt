@@ -14,8 +14,11 @@ use Rattle.replica.specs.declared.Replica.{Replica}
 use Rattle.text.proofs.PrintingLaws.{put-within}
 use Rattle.script.specs.declared.play.PlayedLine.{PlayedLine}
 use Rattle.script.specs.Play.{most, tableLength, lineRoom, placeOf, afterEvent, Leaves}
-use Rattle.script.specs.Script.{Left, left, firstLine, afterLine, linesOf, replicaAt, afterCall, played, Prints}
-use Rattle.script.proofs.ScriptLaws.{getD-any, lines-next, prints}
+use Rattle.text.specs.Lines.{firstLine, afterLine, linesOf}
+use Rattle.script.specs.Script.{Left, left, replicaAt, afterCall, played, Prints}
+use Rattle.text.proofs.LineLaws.{lines-next}
+use Rattle.lists.proofs.Parts.{getD-any}
+use Rattle.script.proofs.ScriptLaws.{prints}
 
 played-next : (ofRig : Bool) (boxes m number : ℕ) (l : Left) (line : List ℕ) (lines : List (List ℕ))
     → played ofRig boxes m number l (line ∷ lines) ≡ played ofRig boxes m (number + 1) (afterCall l (number + 1) (called ofRig boxes m line)) lines

@@ -1,5 +1,5 @@
 -- A whole script: its lines, what they leave one after the other, and what `bench` and `rig` print of it.
-use Prim.Native.Nat.{ℕ, zero, suc, _+_, _*_, min}
+use Prim.Native.Nat.{ℕ, suc, _+_, _*_, min}
 use mathlib.Core.Path.{_≡_}
 use mathlib.Core.Bool.{Bool, true, false}
 use mathlib.Core.List.{List, [], _∷_, _++_}
@@ -7,6 +7,7 @@ use lib.ListN.{length, getD, set, replicate}
 use lib.Dec.{eqb}
 use Rattle.lists.specs.Choice.{pick}
 use Rattle.bytes.specs.Areas.{over}
+use Rattle.text.specs.Lines.{firstLine, afterLine, linesOf}
 use Rattle.line.specs.declared.events.Called.{Called}
 use Rattle.line.specs.Events.{readingsOf, called}
 use Rattle.replica.specs.declared.Settings.{Settings}
@@ -20,24 +21,6 @@ use Rattle.opening.specs.Opening.{sizesIn, openedBy}
 use Rattle.setup.specs.Bench.{bench}
 use Rattle.script.specs.Printing.{headerLine, badAlone, refusalLine}
 use Rattle.script.specs.Play.{most, tableLength, lineRoom, placeOf, afterEvent, freshBoxes}
-
--- ---- the lines
-
--- what stands before the first line feed, which is 10
-unfoldable pub firstLine : List ℕ → List ℕ
-firstLine [] = []
-firstLine (b ∷ bs) = pick (eqb b 10) [] (b ∷ firstLine bs)
-
--- what stands after it
-unfoldable pub afterLine : List ℕ → List ℕ
-afterLine [] = []
-afterLine (b ∷ bs) = pick (eqb b 10) bs (afterLine bs)
-
--- the lines of a text, at most k of them: "A last line may lack its line feed."
-unfoldable pub linesOf : ℕ → List ℕ → List (List ℕ)
-linesOf zero text = []
-linesOf (suc k) [] = []
-linesOf (suc k) (b ∷ bs) = firstLine (b ∷ bs) ∷ linesOf k (afterLine (b ∷ bs))
 
 -- ---- what they leave
 

@@ -2,8 +2,9 @@
 ghost use mathlib.Core.Path.{_≡_};
 ghost use Prim.Native.Nat.{_+_, _-_, _*_, _≤_};
 ghost use lib.ListN.{length, take, drop};
+ghost use Rattle.text.specs.Lines.{firstLine, linesOf};
 ghost use Rattle.script.specs.Play.{most, tableLength, lineRoom};
-ghost use Rattle.script.specs.Script.{firstLine, afterLine, linesOf, left, played, leftBy, groupOutput, openedOutput, benchOutput, rigOutput, outputRoom, Prints};
+ghost use Rattle.script.specs.Script.{left, played, leftBy, groupOutput, openedOutput, benchOutput, rigOutput, outputRoom, Prints};
 use crate::play::LENGTHS;
 use crate::play::MOST;
 use crate::play::TABLE;
@@ -21,26 +22,11 @@ use replica::Replica;
 use replica::Settings;
 use scram::Answer;
 use setup::bench_settings;
+use text::lines::line_end;
 use text::printing::at_most;
 
 // No script prints more: the header line, and 500 lines of at most 256 bytes.
 pub const OUTPUT: usize = 128040;
-
-// Where the line that starts at `from` ends: at a line feed, or at the text's end.
-fn line_end(text: &[u8], from: usize) -> usize
-    requires { ⌜ from ≤ length (now text) ⌝ }
-    ensures { λ r. ⌜ (from ≤ r) × (r ≤ length (now (text .entry))) × (take (r - from) (drop from (now (text .entry))) ≡ firstLine (drop from (now (text .entry))))
-        × (drop (r + 1) (now (text .entry)) ≡ afterLine (drop from (now (text .entry)))) ⌝ }
-{
-    let mut i = from;
-    while i < text.len() {
-        if text[i] == 10 {
-            return i;
-        }
-        i += 1;
-    }
-    i
-}
 
 // Plays the lines of a text after the first `start` bytes of the output.
 fn play_lines(

@@ -1,1 +1,2 @@
 mod Leaving
+mod PageLaws

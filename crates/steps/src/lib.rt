@@ -2,3 +2,4 @@
 // it.
 mod areas;
 pub mod calls;
+pub mod page_calls;

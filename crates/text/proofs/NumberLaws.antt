@@ -27,7 +27,7 @@ use Rattle.text.specs.Numbers.{isDigit, goesOn, spelled, negative, isMin
 pub record Goes (n b : ℕ) : Type 0 where
   pub low : 48 ≤ b
   pub high : b ≤ 57
-  pub small : 10 * n + (b - 48) ≤ 2147483648
+  pub small : 10 * n + (b - 48) ≤ 4294967295
 
 pub digit-range : (b : ℕ) → isDigit b ≡ true → (48 ≤ b) × (b ≤ 57)
 unfolding isDigit
@@ -36,7 +36,7 @@ digit-range b e = let p = both (leb 48 b) (leb b 57) e in (leb-true 48 b (p .0),
 pub goes : (n b : ℕ) → goesOn n b ≡ true → Goes n b
 unfolding goesOn
 goes n b e =
-    let p = both (isDigit b) (leb (10 * n + (b - 48)) 2147483648) e in
+    let p = both (isDigit b) (leb (10 * n + (b - 48)) 4294967295) e in
     let d = digit-range b (p .0) in
     record { low = d .0; high = d .1; small = leb-true _ _ (p .1) }
 

@@ -2,7 +2,7 @@
 -- field is a number in one way alone. Assumes nothing.
 use mathlib.Core.Path.{_≡_, refl, sym, ap, _∙_, subst}
 use mathlib.Core.Bool.{Bool, true, false}
-use mathlib.Core.List.{List, [], _∷_}
+use mathlib.Core.List.{List, [], _∷_, _++_, append-assoc}
 use Prim.Native.Nat.{ℕ, zero, suc, _+_, _*_, _-_, _/_, _%_, _^_, _≤_, _<_}
 use native.Mathlib.Omega.{arith}
 use native.Mathlib.Nat.{pow-suc}
@@ -12,6 +12,7 @@ use lib.ListN.{length, drop}
 use borrow.Author.Tests.{le-leb, lt-ltb, ltb-true, ltb-false, ne-eqb, eqb-true, eqb-false}
 use Rattle.lists.proofs.Booleans.{both, never}
 use Rattle.lists.specs.Choice.{pick}
+use Rattle.lists.proofs.Choice.{pick-holds}
 use mir.Syntax.{w32}
 use mir.Val.{SFits}
 use Rattle.text.specs.declared.numbers.Number.the-variants.{Whole, Malformed}
@@ -25,12 +26,12 @@ use Rattle.text.proofs.PrintingLaws.{last-digit, more-digits}
 -- ---- digits that are printed
 
 -- the digits of n begin with a digit, which is 0 only for 0
-record Leads (l : List ℕ) (n : ℕ) : Type 0 where
-  d : ℕ
-  rest : List ℕ
-  is : l ≡ (48 + d) ∷ rest
-  small : d < 10
-  lead : 0 < n → 0 < d
+pub record Leads (l : List ℕ) (n : ℕ) : Type 0 where
+  pub d : ℕ
+  pub rest : List ℕ
+  pub is : l ≡ (48 + d) ∷ rest
+  pub small : d < 10
+  pub lead : 0 < n → 0 < d
 
 fewer : (k n : ℕ) → n < 10 ^ suc k → n / 10 < 10 ^ k
 fewer k n h = omega (arith, pow-suc 10 k)
@@ -52,18 +53,18 @@ leads (suc k) n tail h s = by (ltb n 10) refl (λ p. leads k (n / 10) ((48 + n %
         let r = more (some k refl l) in
         record { d = r .d; rest = r .rest; is = more-digits k n tail l ∙ r .is; small = r .small; lead = λ m. r .lead (omega arith) }
 
-goes-on : (n d : ℕ) → d < 10 → 10 * n + d ≤ 2147483648 → goesOn n (48 + d) ≡ true
+goes-on : (n d : ℕ) → d < 10 → 10 * n + d ≤ 4294967295 → goesOn n (48 + d) ≡ true
 unfolding goesOn isDigit
-goes-on n d h l = rw (le-leb 48 (48 + d) (omega arith), le-leb (48 + d) 57 (omega arith), le-leb (10 * n + (48 + d - 48)) 2147483648 (omega arith))
+goes-on n d h l = rw (le-leb 48 (48 + d) (omega arith), le-leb (48 + d) 57 (omega arith), le-leb (10 * n + (48 + d - 48)) 4294967295 (omega arith))
 
-spelled-one : (n d v : ℕ) (tail : List ℕ) → d < 10 → 10 * n + d ≡ v → v ≤ 2147483648 → spelled n ((48 + d) ∷ tail) ≡ spelled v tail
+spelled-one : (n d v : ℕ) (tail : List ℕ) → d < 10 → 10 * n + d ≡ v → v ≤ 4294967295 → spelled n ((48 + d) ∷ tail) ≡ spelled v tail
 unfolding spelled pick
 spelled-one n d v tail h e l =
     let s : 10 * n + (48 + d - 48) ≡ v = omega arith in
     rw (goes-on n d h (omega arith), s)
 
 -- the digits of n spell n
-spelled-digits : (k n : ℕ) (tail : List ℕ) → n < 10 ^ k → n ≤ 2147483648 → spelled 0 (digitsBefore k n tail) ≡ spelled n tail
+spelled-digits : (k n : ℕ) (tail : List ℕ) → n < 10 ^ k → n ≤ 4294967295 → spelled 0 (digitsBefore k n tail) ≡ spelled n tail
 unfolding digitsBefore
 spelled-digits zero n tail h l = let e : n ≡ 0 = omega arith in rw e
 spelled-digits (suc k) n tail h l = by (ltb n 10) refl (spelled-digits k (n / 10) ((48 + n % 10) ∷ tail) (fewer k n h) (omega arith))
@@ -77,14 +78,36 @@ spelled-digits (suc k) n tail h l = by (ltb n 10) refl (spelled-digits k (n / 10
         let s = ltb-false n 10 e in
         ap (spelled 0) (more-digits k n tail s) ∙ more ∙ spelled-one (n / 10) (n % 10) n tail (omega arith) (omega arith) l
 
-first : (n : ℕ) → n ≤ 2147483648 → Leads (decimal n) n
+pub decimal-leads : (n : ℕ) → n ≤ 4294967295 → Leads (decimal n) n
 unfolding decimal
-first n h = leads 10 n [] (omega arith) (omega arith)
+decimal-leads n h = leads 10 n [] (omega arith) (omega arith)
 
-no-minus : (n : ℕ) → n ≤ 2147483648 → isMinus (decimal n) ≡ false
+-- and end with its last digit
+pub record Ends (l : List ℕ) (tail : List ℕ) : Type 0 where
+  pub before : List ℕ
+  pub is : l ≡ before ++ tail
+
+ends : (k n : ℕ) (tail : List ℕ) → Ends (digitsBefore k n tail) tail
+unfolding digitsBefore
+ends zero n tail = record { before = []; is = refl }
+ends (suc k) n tail =
+    pick-holds (λ (l : List ℕ). Ends l tail) (ltb n 10) ((48 + n % 10) ∷ tail) (digitsBefore k (n / 10) ((48 + n % 10) ∷ tail))
+    (λ _. record { before = (48 + n % 10) ∷ []; is = refl })
+    (λ _.
+    let e = ends k (n / 10) ((48 + n % 10) ∷ tail) in
+    record { before = e .before ++ ((48 + n % 10) ∷ []); is = e .is ∙ sym (append-assoc (e .before) ((48 + n % 10) ∷ []) tail) })
+
+pub decimal-ends : (n : ℕ) → Ends (decimal n) ((48 + n % 10) ∷ [])
+unfolding decimal digitsBefore
+decimal-ends n =
+    pick-holds (λ (l : List ℕ). Ends l ((48 + n % 10) ∷ [])) (ltb n 10) ((48 + n % 10) ∷ []) (digitsBefore 9 (n / 10) ((48 + n % 10) ∷ []))
+    (λ _. record { before = []; is = refl })
+    (λ _. ends 9 (n / 10) ((48 + n % 10) ∷ []))
+
+no-minus : (n : ℕ) → n ≤ 4294967295 → isMinus (decimal n) ≡ false
 unfolding isMinus
 no-minus n h =
-    let f = first n h in
+    let f = decimal-leads n h in
     let e : (48 + f .d ≡ 45) → ⊥ = λ z. omega arith in
     rw (f .is, lt-ltb 0 (suc (length (f .rest))) (omega arith), ne-eqb (48 + f .d) 45 e)
 
@@ -94,12 +117,13 @@ begins l n f s =
     let e : (48 + f .d ≡ 48) → ⊥ = λ z. omega (arith, f .lead s) in
     rw (f .is, lt-ltb 0 (suc (length (f .rest))) (omega arith), ne-eqb (48 + f .d) 48 e)
 
-well-begun : (n : ℕ) → n ≤ 2147483648 → wellBegun (decimal n) ≡ true
+well-begun : (n : ℕ) → n ≤ 4294967295 → wellBegun (decimal n) ≡ true
 unfolding decimal digitsBefore wellBegun pick
 well-begun zero h = refl
-well-begun (suc n) h = begins (decimal (suc n)) (suc n) (first (suc n) h) (omega arith)
+well-begun (suc n) h = begins (decimal (suc n)) (suc n) (decimal-leads (suc n) h) (omega arith)
 
-magnitude-printed : (n : ℕ) → n ≤ 2147483648 → magnitude (decimal n) ≡ Digits n
+-- a number of 32 bits that is printed is read as itself
+pub magnitude-printed : (n : ℕ) → n ≤ 4294967295 → magnitude (decimal n) ≡ Digits n
 unfolding magnitude decimal spelled pick
 magnitude-printed n h = rw (well-begun n h) (spelled-digits 10 n [] (omega arith) h)
 
@@ -112,12 +136,12 @@ pub reads-printed : (z : ℤ) → SFits w32 z → numberOf (signed z) ≡ Whole 
 unfolding numberOf signed positive negative pick
 reads-printed (pos n) s =
     let h : n < 2147483648 = s .sfits in
-    let l : n ≤ 2147483648 = omega arith in
+    let l : n ≤ 4294967295 = omega arith in
     rw (no-minus n l, magnitude-printed n l, lt-ltb n 2147483648 h)
 reads-printed (negsuc k) s =
     let h : k < 2147483648 = s .sfits in
     let l : suc k ≤ 2147483648 = omega arith in
-    rw (minus-first (decimal (suc k)), magnitude-printed (suc k) l, le-leb (suc k) 2147483648 l)
+    rw (minus-first (decimal (suc k)), magnitude-printed (suc k) (omega arith), le-leb (suc k) 2147483648 l)
 
 -- ---- digits that are read
 
@@ -167,8 +191,8 @@ spelled-size (b ∷ bs) n v i h e =
     let z : suc (length bs) + i ≡ length bs + suc i = omega arith in
     rw z (spelled-size bs (10 * n + (b - 48)) v (suc i) (omega (arith, pow-suc 10 i)) (x .rest))
 
--- and is no larger than an i32 may be
-spelled-most : (bs : List ℕ) (n v : ℕ) → n ≤ 2147483648 → spelled n bs ≡ Digits v → v ≤ 2147483648
+-- and is a number of 32 bits
+spelled-most : (bs : List ℕ) (n v : ℕ) → n ≤ 4294967295 → spelled n bs ≡ Digits v → v ≤ 4294967295
 spelled-most [] n v h e = omega (arith, no-more n v e)
 spelled-most (b ∷ bs) n v h e = let x = next n b bs v e in spelled-most bs (10 * n + (b - 48)) v (x .goes .small) (x .rest)
 
@@ -205,7 +229,7 @@ spelled-printed b bs v s e =
     let r : spelled n bs ≡ Digits v = rw z at (x .rest) in
     let unit : 48 + n % 10 ≡ b = omega arith in
     let size : v < 10 ^ (length bs + 1) = spelled-size bs n v 1 (omega arith) r in
-    let most : v ≤ 2147483648 = spelled-most bs n v (omega arith) r in
+    let most : v ≤ 4294967295 = spelled-most bs n v (omega arith) r in
     sym (same-digits 10 (length bs + 1) v [] (omega arith) size (omega arith) (omega arith)
     ∙ spelled-back bs n v 1 (omega arith) r
     ∙ last-digit 0 n bs (omega arith)
@@ -228,7 +252,8 @@ begun-printed b bs v w e = by (eqb b 48) refl
         let low = next 0 b bs v e .goes .low in
         spelled-printed b bs v (omega (arith, eqb-false b 48 z)) e
 
-magnitude-back : (digits : List ℕ) (v : ℕ) → magnitude digits ≡ Digits v → digits ≡ decimal v
+-- what is read as a number of 32 bits is that number printed
+pub magnitude-back : (digits : List ℕ) (v : ℕ) → magnitude digits ≡ Digits v → digits ≡ decimal v
 unfolding magnitude wellBegun pick
 magnitude-back [] v e = other v e
 magnitude-back (b ∷ bs) v e = by (wellBegun (b ∷ bs)) refl e

@@ -16,9 +16,9 @@ use Rattle.text.specs.declared.numbers.Magnitude.the-variants.{Digits, O
 unfoldable pub isDigit : ℕ → Bool
 isDigit b = leb 48 b && leb b 57
 
--- b is a digit, and after digits that spell n it spells no more than 2147483648, the largest size of an i32
+-- b is a digit, and after digits that spell n it spells no more than 4294967295, the largest number of 32 bits
 unfoldable pub goesOn : ℕ → ℕ → Bool
-goesOn n b = isDigit b && leb (10 * n + (b - 48)) 2147483648
+goesOn n b = isDigit b && leb (10 * n + (b - 48)) 4294967295
 
 -- the number that digits spell after digits that spell n
 unfoldable pub spelled : ℕ → List ℕ → Magnitude
@@ -29,7 +29,7 @@ spelled n (b ∷ bs) = pick (goesOn n b) (spelled (10 * n + (b - 48)) bs) Other
 unfoldable pub wellBegun : List ℕ → Bool
 wellBegun digits = ltb 0 (length digits) && (not (eqb (getD digits 0 0) 48) || eqb (length digits) 1)
 
--- the number that a field without a sign spells
+-- the number of 32 bits that a field without a sign spells
 unfoldable pub magnitude : List ℕ → Magnitude
 magnitude digits = pick (wellBegun digits) (spelled 0 digits) Other
 
@@ -51,6 +51,16 @@ positive Other = Malformed
 -- the number that a field holds
 unfoldable pub numberOf : List ℕ → Number
 numberOf field = pick (isMinus field) (negative (magnitude (drop 1 field))) (positive (magnitude field))
+
+-- what a field spelled, and 0 where it spelled no number
+unfoldable pub sizeIn : Magnitude → ℕ
+sizeIn (Digits n) = n
+sizeIn Other = 0
+
+-- it spelled a number
+unfoldable pub isSize : Magnitude → Bool
+isSize (Digits n) = true
+isSize Other = false
 
 -- a number that is not negative, and 0 for any other
 unfoldable pub counted : Number → ℕ

@@ -1,7 +1,7 @@
-// Numbers as the lines write them: decimal, without needless zeros or a plus sign, zero without a minus, within i32.
+// Numbers as the lines write them: decimal, without needless zeros or a plus sign, zero without a minus, within i32; and those without a sign, of 32 bits.
 ghost use mathlib.Core.Path.{_≡_};
 ghost use Prim.Native.Nat.{_+_, _*_, _-_, _≤_};
-ghost use Rattle.text.specs.Numbers.{isDigit, goesOn, spelled, wellBegun, magnitude, isMinus, negative, positive, numberOf, counted, valueIn, isWhole};
+ghost use Rattle.text.specs.Numbers.{isDigit, goesOn, spelled, wellBegun, magnitude, isMinus, negative, positive, numberOf, sizeIn, isSize, counted, valueIn, isWhole};
 
 // What the bytes of a field are: a number, or none that may be written.
 pub enum Number {
@@ -9,9 +9,9 @@ pub enum Number {
     Malformed,
 }
 
-// What digits spell: a number up to 2,147,483,648, or none.
+// What digits spell: a number of 32 bits, or none.
 pub enum Magnitude {
-    Digits(u64),
+    Digits(u32),
     Other,
 }
 
@@ -25,7 +25,7 @@ fn is_digit(b: u8) -> bool
 }
 
 fn with_digit(n: u64, b: u8) -> u64
-    requires { ⌜ (n ≤ 2147483648) × (48 ≤ b) × (b ≤ 57) ⌝ }
+    requires { ⌜ (n ≤ 4294967295) × (48 ≤ b) × (b ≤ 57) ⌝ }
     ensures { λ r. ⌜ r ≡ 10 * n + (b - 48) ⌝ }
 {
     10 * n + ((b - 48) as u64)
@@ -33,13 +33,13 @@ fn with_digit(n: u64, b: u8) -> u64
 
 // Whether b is a digit that may follow digits spelling n.
 fn goes_on(n: u64, b: u8) -> bool
-    requires { ⌜ n ≤ 2147483648 ⌝ }
+    requires { ⌜ n ≤ 4294967295 ⌝ }
     ensures { λ r. ⌜ r ≡ goesOn n b ⌝ }
 {
     if !is_digit(b) {
         return false;
     }
-    with_digit(n, b) <= 2147483648
+    with_digit(n, b) <= 4294967295
 }
 
 // The number that digits spell.
@@ -56,7 +56,7 @@ fn spell(digits: &[u8]) -> Magnitude
         n = with_digit(n, b);
         i += 1;
     }
-    Magnitude::Digits(n)
+    Magnitude::Digits(n as u32)
 }
 
 // Whether there is a digit, and no needless zero.
@@ -72,7 +72,8 @@ fn well_begun(digits: &[u8]) -> bool
     true
 }
 
-fn read_magnitude(digits: &[u8]) -> Magnitude
+// The number that a field without a sign holds.
+pub fn read_magnitude(digits: &[u8]) -> Magnitude
     ensures { λ r. ⌜ r ≡ magnitude (now (digits .entry)) ⌝ }
 {
     if well_begun(digits) {
@@ -132,6 +133,26 @@ pub fn number_in(field: &[u8]) -> Number
         return below_zero(read_magnitude(&field[1..]));
     }
     from_zero(read_magnitude(field))
+}
+
+// What a field spelled, and 0 where it spelled no number.
+pub fn size_of(m: Magnitude) -> u32
+    ensures { λ r. ⌜ r ≡ sizeIn m ⌝ }
+{
+    match m {
+        Magnitude::Digits(n) => n,
+        Magnitude::Other => 0,
+    }
+}
+
+// Whether it spelled a number.
+pub fn is_size(m: Magnitude) -> bool
+    ensures { λ r. ⌜ r ≡ isSize m ⌝ }
+{
+    match m {
+        Magnitude::Digits(_) => true,
+        Magnitude::Other => false,
+    }
 }
 
 // A number where it is not negative, and 0 for any other.

@@ -2,6 +2,7 @@
 ghost use mathlib.Core.Path.{_≡_};
 ghost use Rattle.law.specs.Answer as Law;
 ghost use Rattle.frame.specs.Answers as Frames;
+ghost use Rattle.pages.specs.Answers as Pages;
 
 pub(crate) fn law_number(answer: law::Answer) -> u32
     ensures { λ r. ⌜ r ≡ Law.number answer ⌝ }
@@ -13,4 +14,10 @@ pub(crate) fn frame_number(answer: frame::Answer) -> u32
     ensures { λ r. ⌜ r ≡ Frames.number answer ⌝ }
 {
     frame::number_of(answer) as u32
+}
+
+pub(crate) fn page_number(answer: pages::Answer) -> u32
+    ensures { λ r. ⌜ r ≡ Pages.number answer ⌝ }
+{
+    pages::number_of(answer) as u32
 }

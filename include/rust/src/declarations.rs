@@ -66,4 +66,13 @@ extern "C" {
         period: &mut u32,
         commands: &mut [i32; 4],
     ) -> u32;
+
+    pub fn winder_write_page(
+        p: usize,
+        entries: *const u32,
+        entries_length: usize,
+        area: *mut u8,
+        area_length: usize,
+        length: &mut usize,
+    ) -> u32;
 }

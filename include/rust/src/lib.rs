@@ -7,11 +7,11 @@ mod declarations;
 
 use declarations::{
     winder_command, winder_convert_single, winder_read_command, winder_read_frame, winder_update,
-    winder_version, winder_write_frame,
+    winder_version, winder_write_frame, winder_write_page,
 };
 
 /// The version of these declarations: major version times 100, and minor version.
-pub const VERSION: u32 = 101;
+pub const VERSION: u32 = 102;
 
 /// The version of the archive.
 #[inline]
@@ -146,4 +146,47 @@ pub fn write_frame(n: usize, m: usize, frame: &Frame, area: &mut [u8], length: &
 #[inline]
 pub fn read_command(p: usize, bytes: &[u8], period: &mut u32, commands: &mut [i32; 4]) -> u32 {
     unsafe { winder_read_command(p, bytes.as_ptr(), bytes.len(), period, commands) }
+}
+
+/// The words that an entry of a shift page takes.
+pub const ENTRY_WORDS: usize = 7;
+
+/// The longest shift page, which a page area must have room for whatever the page has.
+pub const PAGE_AREA: usize = 4380;
+
+/// An entry of a shift page: a period, the view in it, and a command unless `decided` is 0. Of the values as many count as the page has
+/// commands.
+#[repr(C)]
+#[derive(Clone, Copy, Debug, Default, PartialEq, Eq)]
+pub struct Entry {
+    pub period: u32,
+    pub view: u32,
+    pub decided: u32,
+    pub command: [i32; 4],
+}
+
+/// Writes a shift page of p commands to the start of an area. Gives 0 or a refusal's number.
+#[inline]
+pub fn write_page(p: usize, entries: &[Entry], area: &mut [u8], length: &mut usize) -> u32 {
+    const { assert!(size_of::<Entry>() == ENTRY_WORDS * size_of::<u32>()) };
+    // An entry is seven words of 32 bits with nothing between them.
+    let words = unsafe {
+        core::slice::from_raw_parts(entries.as_ptr().cast(), entries.len() * ENTRY_WORDS)
+    };
+    write_page_words(p, words, area, length)
+}
+
+/// The same, with the words of the entries as they are handed to the call. Words that are left over are no entry.
+#[inline]
+pub fn write_page_words(p: usize, words: &[u32], area: &mut [u8], length: &mut usize) -> u32 {
+    unsafe {
+        winder_write_page(
+            p,
+            words.as_ptr(),
+            words.len(),
+            area.as_mut_ptr(),
+            area.len(),
+            length,
+        )
+    }
 }

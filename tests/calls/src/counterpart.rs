@@ -2,10 +2,13 @@
 
 use second::frame;
 use second::law::{self, Settings};
+use second::page;
 use second::reading;
 use second::refusal::Refusal;
 
 use crate::areas::{of_frame, row, to_frame, Fields, Sizes};
+use crate::page_areas::{of_second, to_second, words_of, ENTRY_WORDS, PAGE_WORDS};
+use crate::page_calls::Writing;
 
 /// The answer's number; what is given goes to its area where nothing is
 /// refused.
@@ -67,4 +70,29 @@ pub fn read(sizes: Sizes, bytes: &[u8], fields: &mut Fields) -> u32 {
 pub fn write(sizes: Sizes, fields: &Fields, area: &mut [u8], length: &mut usize) -> u32 {
     let [n, m, _] = sizes.narrow();
     answer(frame::write(n, m, &to_frame(fields), area), length)
+}
+
+/// Words that are left over are not handed to it.
+pub fn write_page(call: &Writing, area: &mut [u8], length: &mut usize) -> u32 {
+    let entries: Vec<page::Entry> = call.entries.iter().map(to_second).collect();
+    answer(page::write(call.p, &entries, area), length)
+}
+
+pub fn read_page(p: usize, bytes: &[u8], count: &mut usize, words: &mut [u32; PAGE_WORDS]) -> u32 {
+    let mut given = (*count, *words);
+    let entries = page::read(p, bytes);
+    let number = answer(entries.map(|entries| lines_of(&entries)), &mut given);
+    (*count, *words) = given;
+    number
+}
+
+/// How many, and seven words for each. Only with a fault planted there may be
+/// more than find room.
+fn lines_of(entries: &[page::Entry]) -> (usize, [u32; PAGE_WORDS]) {
+    let mut words = [0; PAGE_WORDS];
+    let (places, _) = words.as_chunks_mut::<ENTRY_WORDS>();
+    for (place, entry) in places.iter_mut().zip(entries) {
+        *place = words_of(&of_second(entry));
+    }
+    (entries.len(), words)
 }

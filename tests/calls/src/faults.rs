@@ -4,12 +4,17 @@
 use std::env;
 use std::process::Command;
 
-use second::fault::{Fault, FRAME_NAMES, LAW_NAMES, NAMES, READING_NAMES};
+use second::fault::{Fault, FRAME_NAMES, LAW_NAMES, NAMES, PAGE_NAMES, READING_NAMES};
 use second::fault::{ROUNDING_NAMES, STEP_NAMES, VARIABLE};
 
-use crate::{frames, law, singles, steps};
+use crate::{frames, law, lists, pages, singles, steps};
 
 const MOST_CALLS: usize = 100_000;
+const MOST_LISTS: usize = 20_000;
+const MOST_PAGES: usize = 50_000;
+
+/// Faults with their names.
+type Named = (&'static str, Fault);
 
 /// Prints the table; an error if a fault was not found.
 pub fn table(seed: u64) -> Result<(), String> {
@@ -21,7 +26,9 @@ pub fn table(seed: u64) -> Result<(), String> {
         & rows(seed, "steps", &NAMES)?
         & rows(seed, "steps", &STEP_NAMES)?
         & rows(seed, "steps", &READING_NAMES)?
-        & rows(seed, "steps", &ROUNDING_NAMES)?;
+        & rows(seed, "steps", &ROUNDING_NAMES)?
+        & rows(seed, "lists", &of_lists())?
+        & rows(seed, "pages", &of_pages())?;
     match all_found {
         true => Ok(()),
         false => Err("a planted fault was not found".to_string()),
@@ -30,11 +37,40 @@ pub fn table(seed: u64) -> Result<(), String> {
 
 /// The faults of readings that a single's bits can show: the others are about
 /// readings that are no singles, and about refusal 7.
-fn of_singles() -> Vec<(&'static str, Fault)> {
+fn of_singles() -> Vec<Named> {
     let others = [Fault::MissingPresent, Fault::MarksUnconverted];
-    let mut faults = READING_NAMES.to_vec();
-    faults.retain(|(_, fault)| !others.contains(fault));
-    faults
+    without(&READING_NAMES, &others)
+}
+
+/// The faults of pages that a list written, and read back, can show: the
+/// others read what no writing gives.
+fn of_lists() -> Vec<Named> {
+    let others = [
+        Fault::NeedlessZeroRead,
+        Fault::AnyOrderRead,
+        Fault::SpacesBehindRead,
+    ];
+    without(&PAGE_NAMES, &others)
+}
+
+/// The faults of pages that one handed to a reader can show: the others are
+/// about lists and areas.
+fn of_pages() -> Vec<Named> {
+    let others = [
+        Fault::LastGiven,
+        Fault::WithoutCommandStays,
+        Fault::FallingOrder,
+        Fault::ShortPageArea,
+        Fault::PageAreaFirst,
+        Fault::PeriodsBeforeArea,
+    ];
+    without(&PAGE_NAMES, &others)
+}
+
+fn without(faults: &[Named], others: &[Fault]) -> Vec<Named> {
+    let mut left = faults.to_vec();
+    left.retain(|(_, fault)| !others.contains(fault));
+    left
 }
 
 /// Prints the rows of some faults; gives whether each was found.
@@ -65,22 +101,27 @@ fn searched(seed: u64, calls: &str, fault: &str) -> Result<String, String> {
 
 /// Prints the first number at which the two implementations differ.
 pub fn search(calls: &str, seed: u64) -> Result<(), String> {
-    let differs: fn(u64, usize) -> bool = match calls {
-        "frames" => {
-            |seed, number| frames::compare(seed, number, &mut frames::Counts::default()).is_err()
-        }
-        "law" => |seed, number| law::compare(seed, number, &mut law::Counts::default()).is_err(),
-        "singles" => {
-            |seed, number| singles::compare(seed, number, &mut singles::Counts::default()).is_err()
-        }
-        "steps" => {
-            |seed, number| steps::compare(seed, number, &mut steps::Counts::default()).is_err()
-        }
+    let found = match calls {
+        "frames" => first_difference(frames::compare, seed, MOST_CALLS),
+        "law" => first_difference(law::compare, seed, MOST_CALLS),
+        "singles" => first_difference(singles::compare, seed, MOST_CALLS),
+        "steps" => first_difference(steps::compare, seed, MOST_CALLS),
+        "lists" => first_difference(lists::compare, seed, MOST_LISTS),
+        "pages" => first_difference(pages::compare, seed, MOST_PAGES),
         _ => return Err(format!("{calls}: no calls that are searched")),
     };
-    match (1..=MOST_CALLS).find(|&number| differs(seed, number)) {
+    match found {
         Some(number) => println!("{number}"),
         None => println!("not found"),
     }
     Ok(())
+}
+
+fn first_difference<C: Default>(
+    compare: fn(u64, usize, &mut C) -> Result<(), String>,
+    seed: u64,
+    most: usize,
+) -> Option<usize> {
+    let differs = |&number: &usize| compare(seed, number, &mut C::default()).is_err();
+    (1..=most).find(differs)
 }

@@ -4,6 +4,8 @@
 use second::law::Settings;
 
 use crate::areas::{Fields, Sizes};
+use crate::page_areas::{words_of, PAGE_WORDS};
+use crate::page_calls::Writing;
 
 /// The sizes in the settings are not looked at.
 pub fn sized(sizes: Sizes, settings: &Settings) -> winder::Settings {
@@ -55,6 +57,22 @@ pub fn read(sizes: Sizes, bytes: &[u8], fields: &mut Fields) -> u32 {
 
 pub fn write(sizes: Sizes, fields: &Fields, area: &mut [u8], length: &mut usize) -> u32 {
     winder::write_frame(sizes.n, sizes.m, fields, area, length)
+}
+
+pub fn write_page(call: &Writing, area: &mut [u8], length: &mut usize) -> u32 {
+    let Writing { p, entries, .. } = call;
+    match &call.left_over {
+        None => winder::write_page(*p, entries, area, length),
+        Some(left_over) => {
+            let mut words: Vec<u32> = entries.iter().flat_map(words_of).collect();
+            words.extend(left_over);
+            winder::write_page_words(*p, &words, area, length)
+        }
+    }
+}
+
+pub fn read_page(p: usize, bytes: &[u8], count: &mut usize, words: &mut [u32; PAGE_WORDS]) -> u32 {
+    steps::read_page(p, bytes, count, words)
 }
 
 #[cfg(test)]

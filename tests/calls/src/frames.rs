@@ -183,6 +183,7 @@ impl fmt::Display for Counts {
 #[cfg(test)]
 mod tests {
     use super::*;
+    use crate::report::met;
 
     #[test]
     fn every_answer_and_every_damage_is_met() {
@@ -190,11 +191,8 @@ mod tests {
         for number in 1..=2_000 {
             compare(1, number, &mut counts).unwrap();
         }
-        let met = |answers: [usize; 13]| -> Vec<usize> {
-            (0..13).filter(|&answer| answers[answer] > 0).collect()
-        };
-        assert_eq!(met(counts.read), [0, 2, 8]);
-        assert_eq!(met(counts.written), [0, 2, 5, 8]);
+        assert_eq!(met(&counts.read), [0, 2, 8]);
+        assert_eq!(met(&counts.written), [0, 2, 5, 8]);
         assert!(counts.damages.iter().all(|&(count, _)| count > 0));
     }
 }

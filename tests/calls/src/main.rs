@@ -1,10 +1,11 @@
-//! Compares frames, law calls, conversions of readings and steps of the first
-//! implementation, through its static libraries `winder` and `steps`, with the
-//! second implementation of document 01.
+//! Compares frames, law calls, conversions of readings, steps and shift pages
+//! of the first implementation, through its static libraries `winder` and
+//! `steps`, with the second implementation of document 01.
 
 #![forbid(unsafe_code)]
 
 mod areas;
+mod byte_damage;
 #[cfg(test)]
 mod commands;
 mod counterpart;
@@ -18,9 +19,16 @@ mod handed_in;
 mod handed_readings;
 mod law;
 mod law_call;
+mod line_damage;
+mod list_counts;
 mod listed_singles;
-// Its shuffle has no use here.
-#[allow(dead_code)]
+mod lists;
+mod page_areas;
+mod page_calls;
+mod page_columns;
+mod page_damage;
+mod page_lists;
+mod pages;
 #[path = "../../compare/src/prng.rs"]
 mod prng;
 mod reach;
@@ -44,8 +52,10 @@ const USAGE: &str = "usage:
   calls singles COUNT SEED
   calls singles all
   calls steps COUNT SEED
+  calls lists COUNT SEED
+  calls pages COUNT SEED
   calls faults SEED
-  calls search frames|law|singles|steps SEED
+  calls search frames|law|singles|steps|lists|pages SEED
 
 The last is for this program's own use, with a fault planted.";
 
@@ -68,6 +78,8 @@ fn run(words: &[&str]) -> Result<(), String> {
         ["singles", "all"] => singles::compare_all(),
         ["singles", count, seed] => compare("single conversions", singles::compare, count, seed),
         ["steps", count, seed] => compare("steps", steps::compare, count, seed),
+        ["lists", count, seed] => compare("lists", lists::compare, count, seed),
+        ["pages", count, seed] => compare("pages", pages::compare, count, seed),
         ["faults", seed] => faults::table(number(seed)?),
         ["search", calls, seed] => {
             second::fault::plant_from_environment()?;

@@ -17,8 +17,8 @@ pub fn alike<T: fmt::Debug + PartialEq>(
     }
 }
 
-/// By answer; no answer is above 12.
-pub type Answers = [usize; 13];
+/// By answer; no answer is above 14.
+pub type Answers = [usize; 15];
 
 pub fn write_row(out: &mut fmt::Formatter<'_>, name: &str, count: usize) -> fmt::Result {
     writeln!(out, "{name:<38}{count:>9}")
@@ -31,4 +31,11 @@ pub fn write_answers(out: &mut fmt::Formatter<'_>, what: &str, answers: &Answers
         write_row(out, &format!("{what} answered by {number}"), count)?;
     }
     Ok(())
+}
+
+/// The numbers of the answers that occurred.
+#[cfg(test)]
+pub fn met(answers: &Answers) -> Vec<usize> {
+    let numbers = 0..answers.len();
+    numbers.filter(|&number| answers[number] > 0).collect()
 }

@@ -53,10 +53,25 @@ pub fn perhaps_outside(prng: &mut Prng, sizes: Sizes) -> Sizes {
     let mut asked = [sizes.n, sizes.m, sizes.p];
     if prng.chance(6) {
         let which = prng.below(3);
-        let size = asked[which];
-        let outside = [0, MOST[which] + 1, 256 + size, (1 << 32) + size, usize::MAX];
-        asked[which] = prng.pick(&outside);
+        asked[which] = outside(prng, asked[which], MOST[which]);
     }
     let [n, m, p] = asked;
     Sizes { n, m, p }
+}
+
+fn outside(prng: &mut Prng, size: usize, most: usize) -> usize {
+    prng.pick(&[0, most + 1, 256 + size, (1 << 32) + size, usize::MAX])
+}
+
+/// A p in its range, for calls that have no other size.
+pub fn commands(prng: &mut Prng) -> usize {
+    1 + prng.below(MOST[2])
+}
+
+/// The same p, or at times one out of its range.
+pub fn perhaps_other_commands(prng: &mut Prng, p: usize) -> usize {
+    match prng.chance(6) {
+        true => outside(prng, p, MOST[2]),
+        false => p,
+    }
 }

@@ -1,5 +1,5 @@
-//! Compares the first implementation's programs `bench` and `rig` with the
-//! second implementation of document 01, on generated scripts.
+//! Compares the first implementation's programs `bench`, `rig` and `page` with
+//! the second implementation of documents 01 and 02, on generated scripts.
 
 #![forbid(unsafe_code)]
 
@@ -9,6 +9,7 @@ mod faults;
 mod generator;
 mod group;
 mod malformed;
+mod pages;
 mod prng;
 mod run;
 mod scripts;
@@ -23,11 +24,12 @@ use run::Programs;
 
 const USAGE: &str = "usage:
   compare scripts COUNT SEED BENCH RIG [SECOND_DIR]
+  compare pages COUNT SEED PAGE
   compare faults SEED [SECOND_DIR]
   compare second bench|rig
   compare search SEED
 
-BENCH and RIG are the first implementation's programs. SECOND_DIR is a folder
+BENCH, RIG and PAGE are the first implementation's programs. SECOND_DIR is a folder
 with the second's programs; without it this program stands in for them. The
 last two are for this program's own use, with a fault planted.";
 
@@ -52,6 +54,7 @@ fn run(words: &[&str]) -> Result<(), String> {
             };
             scripts::compare(number(count)?, number(seed)?, &sides)
         }
+        ["pages", count, seed, page] => pages::compare(number(count)?, number(seed)?, page),
         ["faults", seed] => found(faults::table(number(seed)?, Programs::own)?),
         ["faults", seed, folder] => {
             let second = || Ok(Programs::within(folder));

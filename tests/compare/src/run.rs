@@ -81,7 +81,7 @@ impl Programs {
 
 /// Writes and reads at once, so that neither side waits for the other with a
 /// full pipe.
-fn talk(child: &mut Child, input: &[u8]) -> Result<Vec<u8>, String> {
+pub fn talk(child: &mut Child, input: &[u8]) -> Result<Vec<u8>, String> {
     let mut to_child = child.stdin.take().ok_or("no standard input")?;
     let mut from_child = child.stdout.take().ok_or("no standard output")?;
     thread::scope(|scope| {

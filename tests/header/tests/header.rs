@@ -61,7 +61,7 @@ fn is_found(name: &str, old: &str, new: &str) {
 #[test]
 fn the_header_declares_what_the_crate_exports() {
     let exports = exports();
-    assert_eq!(exports.len(), 7);
+    assert_eq!(exports.len(), 8);
     let declared = declared(&header()).expect("prototypes");
     assert_eq!(
         differences(&exports, &declared.functions),
@@ -78,7 +78,7 @@ fn the_declarations_for_rust_are_what_the_crate_exports() {
 }
 
 /// Where each constant stands in the crates; `#` is its number.
-const CONSTANTS: [(&str, &str, &str); 16] = [
+const CONSTANTS: [(&str, &str, &str); 21] = [
     ("WINDER_VERSION", "winder/src/version.rt", "{\n    #\n}"),
     ("WINDER_STATES_MAX", "frame/src/lib.rt", "if # < n {"),
     ("WINDER_READINGS_MAX", "frame/src/lib.rt", "m <= #\n"),
@@ -98,6 +98,13 @@ const CONSTANTS: [(&str, &str, &str); 16] = [
         "frame/src/lengths.rt",
         "LONGEST_COMMAND: usize = #;",
     ),
+    (
+        "WINDER_ENTRY_WORDS",
+        "pages/src/entries.rt",
+        "WORDS: usize = #;",
+    ),
+    ("WINDER_PAGE_LINES", "pages/src/lines.rt", "MOST: usize = #;"),
+    ("WINDER_PAGE_AREA", "pages/src/lines.rt", "PAGE: usize = #;"),
     ("WINDER_PROPOSE", "frame/src/kinds.rt", "PROPOSE: u8 = #;"),
     ("WINDER_ACK", "frame/src/kinds.rt", "ACK: u8 = #;"),
     ("WINDER_DECIDE", "frame/src/kinds.rt", "DECIDE: u8 = #;"),
@@ -126,6 +133,16 @@ const CONSTANTS: [(&str, &str, &str); 16] = [
         "WINDER_REFUSED_FRAME",
         "frame/src/lib.rt",
         "Answer::Malformed => #,",
+    ),
+    (
+        "WINDER_REFUSED_PAGE_AREA",
+        "pages/src/lib.rt",
+        "Answer::Area => #,",
+    ),
+    (
+        "WINDER_REFUSED_PERIODS",
+        "pages/src/lib.rt",
+        "Answer::Page => #,",
     ),
 ];
 

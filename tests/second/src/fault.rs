@@ -5,7 +5,7 @@
 use std::env;
 use std::sync::OnceLock;
 
-/// The environment variable that the two programs read once at their start.
+/// The environment variable that the programs read once at their start.
 pub const VARIABLE: &str = "SECOND_FAULT";
 
 #[derive(Clone, Copy, Debug, PartialEq, Eq)]
@@ -128,6 +128,33 @@ pub enum Fault {
     FlooredUpdate,
     /// The command's division alone rounds toward minus infinity.
     FlooredCommand,
+    /// Of the entries of one period the last given stands: the last with a
+    /// command, else the last.
+    LastGiven,
+    /// An entry without a command stays where one with it is given later.
+    WithoutCommandStays,
+    /// Periods are written in falling order.
+    FallingOrder,
+    /// 61 periods are taken, written and read.
+    SixtyFirstPeriod,
+    /// The view stands one column to the left, written and read.
+    ViewColumn,
+    /// The hyphen stands in the first column of the first command, written
+    /// and read.
+    HyphenColumn,
+    /// A number with needless zeros is read.
+    NeedlessZeroRead,
+    /// A page area of 4,379 bytes is taken.
+    ShortPageArea,
+    /// The page area is looked at before p: 13 comes before 2.
+    PageAreaFirst,
+    /// Periods are counted before the page area is looked at: 14 comes before
+    /// 13.
+    PeriodsBeforeArea,
+    /// Periods are read in any order.
+    AnyOrderRead,
+    /// Anything is read behind the last command.
+    SpacesBehindRead,
 }
 
 /// The faults that scripts must find, with their names in the environment
@@ -215,6 +242,22 @@ pub const ROUNDING_NAMES: [(&str, Fault); 6] = [
     ("floored_command", Fault::FlooredCommand),
 ];
 
+/// The faults that pages written and read must find.
+pub const PAGE_NAMES: [(&str, Fault); 12] = [
+    ("last_given", Fault::LastGiven),
+    ("without_command_stays", Fault::WithoutCommandStays),
+    ("falling_order", Fault::FallingOrder),
+    ("sixty_first_period", Fault::SixtyFirstPeriod),
+    ("view_column", Fault::ViewColumn),
+    ("hyphen_column", Fault::HyphenColumn),
+    ("needless_zero_read", Fault::NeedlessZeroRead),
+    ("short_page_area", Fault::ShortPageArea),
+    ("page_area_first", Fault::PageAreaFirst),
+    ("periods_before_area", Fault::PeriodsBeforeArea),
+    ("any_order_read", Fault::AnyOrderRead),
+    ("spaces_behind_read", Fault::SpacesBehindRead),
+];
+
 static PLANTED: OnceLock<Fault> = OnceLock::new();
 
 /// Plants the fault that the environment names. Unset or empty: none. A name
@@ -226,6 +269,7 @@ pub fn plant_from_environment() -> Result<(), String> {
     }
     let of_calls = LAW_NAMES.iter().chain(&FRAME_NAMES).chain(&STEP_NAMES);
     let of_requests = READING_NAMES.iter().chain(&ROUNDING_NAMES);
+    let of_requests = of_requests.chain(&PAGE_NAMES);
     let mut known = NAMES.iter().chain(of_calls).chain(of_requests);
     let (_, fault) = known
         .find(|(known, _)| name == *known)

@@ -1,7 +1,7 @@
 //! A second, independent implementation of document 01, "A SCRaM replica
 //! group for a winder's tension controller", with change requests L1,
-//! "Readings as the transmitters send them", and L2, "Rounding that creeps",
-//! of document 02.
+//! "Readings as the transmitters send them", L2, "Rounding that creeps", and
+//! L3, "The shift page", of document 02.
 //!
 //! Comments in quotation marks are document 01's own words, or document 02's
 //! where they name it; "readings" and "changes" name the papers that settle
@@ -12,6 +12,8 @@
 pub mod fault;
 pub mod frame;
 pub mod law;
+pub mod page;
+pub mod printed;
 pub mod reading;
 pub mod refusal;
 pub mod replica;

@@ -1,8 +1,10 @@
-//! Document 01, "Where each refusal is made".
+//! Document 01, "Where each refusal is made". Document 02: "refusals added
+//! from here on join demand 1's twelve".
 
 use std::fmt;
 
-/// A refusal; its value as `u8` is the number in document 01's table.
+/// A refusal; its value as `u8` is the number in document 01's table or in
+/// document 02's request.
 #[derive(Clone, Copy, Debug, PartialEq, Eq)]
 #[repr(u8)]
 pub enum Refusal {
@@ -31,10 +33,15 @@ pub enum Refusal {
     Bases = 11,
     /// "view already 4,294,967,295"
     LastView = 12,
+    /// Document 02, L3: "on writing, area under 4,380 bytes"
+    PageArea = 13,
+    /// Document 02, L3: "more than 60 distinct periods, or on reading back a
+    /// page that no writing gives"
+    Page = 14,
 }
 
 impl Refusal {
-    /// The number in document 01's table.
+    /// The number in document 01's table or in document 02's request.
     pub fn number(self) -> u8 {
         self as u8
     }

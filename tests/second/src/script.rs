@@ -12,11 +12,11 @@ use crate::refusal::Refusal;
 use crate::replica::{check_group, Answer, Areas, Replica, Step};
 
 /// "It reads at most 500 lines"
-const MOST_LINES: usize = 500;
+pub(crate) const MOST_LINES: usize = 500;
 
-const HEADER: &str = "no who answer k v vb kb x frame command";
+pub(crate) const HEADER: &str = "no who answer k v vb kb x frame command";
 
-const BAD: &str = "bad";
+pub(crate) const BAD: &str = "bad";
 
 const BENCH_BOXES: u8 = 3;
 
@@ -137,12 +137,12 @@ fn fill<'a>(places: &mut [i32], words: &mut impl Iterator<Item = &'a [u8]>) -> O
 
 /// The words of a line, between "single spaces"; two spaces have an empty
 /// word between them, which is no number.
-fn words(line: &[u8]) -> impl Iterator<Item = &[u8]> {
+pub(crate) fn words(line: &[u8]) -> impl Iterator<Item = &[u8]> {
     line.split(|&byte| byte == b' ')
 }
 
 /// "Decimal without needless zeros or a plus sign, zero without a minus"
-fn number(word: &[u8]) -> Option<i64> {
+pub(crate) fn number(word: &[u8]) -> Option<i64> {
     let digits = word.strip_prefix(b"-").unwrap_or(word);
     let plain = digits.iter().all(u8::is_ascii_digit);
     let needless_zero_or_sign = digits.first() == Some(&b'0') && word.len() > 1;
@@ -175,7 +175,7 @@ fn digit_value(digit: u8) -> Option<u8> {
     }
 }
 
-fn number_in(word: &[u8], range: RangeInclusive<usize>) -> Option<usize> {
+pub(crate) fn number_in(word: &[u8], range: RangeInclusive<usize>) -> Option<usize> {
     let number = usize::try_from(number(word)?).ok()?;
     range.contains(&number).then_some(number)
 }

@@ -1,5 +1,5 @@
-//! The two programs as they run: standard input, standard output and the
-//! planted faults.
+//! The programs as they run: standard input, standard output and the planted
+//! faults.
 
 use std::io::Write;
 use std::process::{Command, Output, Stdio};
@@ -8,6 +8,7 @@ use second::fault::ROUNDING_NAMES;
 
 const BENCH: &str = env!("CARGO_BIN_EXE_bench");
 const RIG: &str = env!("CARGO_BIN_EXE_rig");
+const PAGE: &str = env!("CARGO_BIN_EXE_page");
 
 const EXAMPLE: &str = "T 1 100\nT 2 102\nD 2 1\nD 1 3\nD 2 4\nT 2 -\n";
 
@@ -366,5 +367,83 @@ fn faults_of_single_divisions_show() {
         let row = |command: i32| format!("4 1 ok 1 0 0 1 {start} 4 {command}");
         assert_shows_without(&names, fault, &input, &row(right), &row(wrong));
         assert_shows(RIG, "floor_kept", &input, 4, &row(wrong));
+    }
+}
+
+/// What the program prints and, where lines are passed over, says of them.
+fn assert_pages(text: &[u8], pages: &[&str], said: &str) {
+    let output = run(PAGE, "", text);
+    assert!(output.status.success());
+    assert_eq!(String::from_utf8(output.stdout).unwrap(), pages.concat());
+    assert_eq!(String::from_utf8(output.stderr).unwrap(), said);
+}
+
+#[test]
+fn page_prints_the_page_of_the_example() {
+    let text = run(BENCH, "", EXAMPLE.as_bytes()).stdout;
+    let page = [
+        "         1          0           50                                      \n",
+        "         2          0            -                                      \n",
+    ];
+    assert_pages(&text, &page, "");
+    let longer = [&text[..], b"\n7 bad\n8 worse\nr13\n"].concat();
+    assert_pages(&longer, &page, "page: lines passed over: 3\n");
+}
+
+#[test]
+fn page_prints_nothing_where_there_is_no_entry() {
+    assert_pages(b"", &[], "");
+    assert_pages(b"r1\n", &[], "");
+    assert_pages(b"\n", &[], "page: lines passed over: 1\n");
+}
+
+#[test]
+fn page_prints_a_form_feed_between_pages() {
+    let script: String = (1..=61).map(|y| format!("T 2 {y}\n")).collect();
+    let text = run(BENCH, "", script.as_bytes()).stdout;
+    let line = |period| format!("{period:10}          0 {:>12}{:38}\n", "-", "");
+    let first: String = (1..=60).map(line).collect();
+    assert_pages(&text, &[&first, "\u{c}\n", &line(61)], "");
+}
+
+/// Of the faults of pages those of writing show in what is printed.
+#[test]
+fn faults_of_pages_show() {
+    let text = "1 1 ok 1 0 0 0 0 - -\n1 1 ok 1 0 0 0 0 - 5\n\
+                1 1 ok 1 0 0 0 0 - 6\n1 1 ok 2 1 0 0 0 - -\n";
+    let right = [
+        "         1          0            5                                      ",
+        "         2          1            -                                      ",
+    ];
+    assert_eq!(lines(PAGE, "", text), right);
+    let cases = [
+        (
+            "last_given",
+            0,
+            "         1          0            6                                      ",
+        ),
+        (
+            "without_command_stays",
+            0,
+            "         1          0            -                                      ",
+        ),
+        (
+            "falling_order",
+            0,
+            "         2          1            -                                      ",
+        ),
+        (
+            "view_column",
+            0,
+            "         1         0             5                                      ",
+        ),
+        (
+            "hyphen_column",
+            1,
+            "         2          1 -                                                 ",
+        ),
+    ];
+    for (fault, line, row) in cases {
+        assert_shows(PAGE, fault, text, line, row);
     }
 }

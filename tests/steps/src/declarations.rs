@@ -1,6 +1,15 @@
 //! The functions that crate steps exports. A slice goes as its address and its length.
 
 extern "C" {
+    pub fn steps_read_page(
+        p: usize,
+        bytes: *const u8,
+        bytes_length: usize,
+        line: usize,
+        count: &mut usize,
+        words: &mut [u32; 7],
+    ) -> u32;
+
     pub fn steps_make(
         group: &[u8; 2],
         sizes: &[usize; 3],

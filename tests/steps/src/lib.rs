@@ -1,9 +1,9 @@
-//! The calls of crate steps, over the archive that `rt staticlib steps` makes: a replica's making and its steps on areas of numbers, for the
-//! comparison of the two implementations alone. Every function here is safe.
+//! The calls of crate steps, over the archive that `rt staticlib steps` makes: a replica's making and its steps on areas of numbers, and
+//! reading a shift page, for the comparison of the two implementations alone. Every function here is safe.
 
 mod declarations;
 
-use declarations::{steps_arrive, steps_give_up, steps_make, steps_tick};
+use declarations::{steps_arrive, steps_give_up, steps_make, steps_read_page, steps_tick};
 
 /// The answer of a step that ignores its event. Done is 0, and a refusal is its number.
 pub const IGNORED: u32 = 256;
@@ -113,4 +113,36 @@ pub fn arrive(settings: &Settings, held: &mut Held, bytes: &[u8], lent: Lent) ->
         bytes.as_ptr(),
         bytes.len()
     )
+}
+
+/// The words of a page: seven for each of 60 lines.
+pub const PAGE_WORDS: usize = 420;
+
+/// Reads a shift page of p commands: the number of its lines, and seven words of each, 0 behind them.
+pub fn read_page(p: usize, bytes: &[u8], count: &mut usize, words: &mut [u32; PAGE_WORDS]) -> u32 {
+    let (mut lines, mut line) = (0, [0; 7]);
+    let answer = read_line(p, bytes, 0, &mut lines, &mut line);
+    if answer != 0 {
+        return answer;
+    }
+    for (number, place) in words.chunks_exact_mut(7).enumerate() {
+        line = [0; 7];
+        if number < lines {
+            read_line(p, bytes, number, &mut lines, &mut line);
+        }
+        place.copy_from_slice(&line);
+    }
+    *count = lines;
+    0
+}
+
+/// The number of lines of a page, and the words of one of them. Gives 0 or a refusal's number.
+pub fn read_line(
+    p: usize,
+    bytes: &[u8],
+    line: usize,
+    count: &mut usize,
+    words: &mut [u32; 7],
+) -> u32 {
+    unsafe { steps_read_page(p, bytes.as_ptr(), bytes.len(), line, count, words) }
 }

@@ -6,8 +6,9 @@ use lib.ListN.{length, take, drop}
 use borrow.Author.Needs.{needs}
 use native.Mathlib.Omega.{arith}
 use Rattle.script.specs.Play.{most}
-use Rattle.script.specs.Script.{linesOf, left, played}
-use Rattle.script.proofs.ScriptLaws.{lines-end, no-lines}
+use Rattle.text.specs.Lines.{linesOf}
+use Rattle.script.specs.Script.{left, played}
+use Rattle.text.proofs.LineLaws.{lines-end, no-lines}
 use Rattle.script.proofs.Played.{Sofar, one-more, no-more}
 use Rattle.script.proofs.output.play_lines.Statement.{statement}
 use Rattle.script.proofs.output.play_lines.Tie as tie

@@ -9,7 +9,8 @@ use Rattle.text.proofs.PrintingLaws.{put-within}
 use Rattle.replica.specs.declared.Replica.{Replica}
 use Rattle.script.specs.Printing.{headerLine}
 use Rattle.script.specs.Play.{most, tableLength}
-use Rattle.script.specs.Script.{Left, left, linesOf, played, unplayed, leftBy}
+use Rattle.text.specs.Lines.{linesOf}
+use Rattle.script.specs.Script.{Left, left, played, unplayed, leftBy}
 use Rattle.script.proofs.ScriptLaws.{prints-same, prints-after}
 use Rattle.script.proofs.output.play_script.Statement.{statement}
 use Rattle.script.proofs.output.play_script.Tie as tie

@@ -12,7 +12,7 @@ use Rattle.text.proofs.numbers.spell.Statement.{statement}
 use Rattle.text.proofs.numbers.spell.Tie as tie
 
 abbrev Inv-loop : tie.InvT-loop
-Inv-loop digits n₀ i₀ n i = (i ≤ length digits) × (n ≤ 2147483648) × (spelled 0 digits ≡ spelled n (drop i digits))
+Inv-loop digits n₀ i₀ n i = (i ≤ length digits) × (n ≤ 4294967295) × (spelled 0 digits ≡ spelled n (drop i digits))
 
 abbrev μ-loop : tie.MeasureT-loop
 μ-loop digits n₀ i₀ n i = length digits - i
@@ -49,6 +49,9 @@ loop-again c =
     let g = goes _ _ e in
     (omega arith, rw (c .with-digit .ensures) (g .small), rw (c .with-digit .ensures) (l .inv .2 ∙ spelled-more _ _ (l .i) (omega arith) e))
 
+cast-t10 : tie.Need-cast-t10 Inv-loop μ-loop
+cast-t10 c = search needs
+
 returns-2 : tie.Need-returns-2 Inv-loop μ-loop
 returns-2 c =
     let l = c .before .loop in
@@ -68,4 +71,5 @@ spell-spec =
     add-i
     loop-less
     loop-again
+    cast-t10
     returns-2)

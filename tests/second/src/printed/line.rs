@@ -1,0 +1,221 @@
+//! One line that `bench` or `rig` printed, judged field by field. Changes:
+//! "Each line is judged by itself, in form and ranges".
+
+use crate::law::{Command, MAX_COMMANDS, MAX_STATES};
+use crate::page::Entry;
+use crate::refusal::Refusal;
+use crate::replica::MOST_BOXES;
+use crate::script::{number, number_in, words, BAD, HEADER, MOST_LINES};
+
+/// A line that one of the programs prints.
+#[derive(Debug, PartialEq, Eq)]
+pub enum Line {
+    /// No entry: the header, a `bad` or a refusal, and any answer but `ok`.
+    Silent,
+    /// An answer that is `ok`.
+    Done(Done),
+}
+
+/// What a page takes of a line.
+#[derive(Debug, PartialEq, Eq)]
+pub struct Done {
+    period: u32,
+    view: u32,
+    /// 1 to 4 of them where there is a command.
+    pub values: Option<Vec<i32>>,
+}
+
+impl Done {
+    /// Changes: "a command with another number of values than the first is
+    /// passed over and counted".
+    pub fn fits(&self, p: usize) -> bool {
+        self.values.as_ref().is_none_or(|values| values.len() == p)
+    }
+
+    pub fn entry(&self) -> Entry {
+        let command = self.values.as_ref().map(|values| {
+            let mut command = Command::default();
+            command[..values.len()].copy_from_slice(values);
+            command
+        });
+        Entry {
+            period: self.period,
+            view: self.view,
+            command,
+        }
+    }
+}
+
+/// The line, field by field; none for "a line that neither program prints".
+/// Nothing relates two fields of a line, nor two lines.
+pub fn judge(line: &[u8]) -> Option<Line> {
+    if line == HEADER.as_bytes() {
+        return Some(Line::Silent);
+    }
+    let fields: Vec<&[u8]> = words(line).collect();
+    match fields[..] {
+        [word] if is_bad(word) || is_refusal(word) => Some(Line::Silent),
+        [no, word] if is_line_number(no) && is_bad(word) => Some(Line::Silent),
+        [no, who, answer, ref rest @ ..] if is_line_number(no) && is_box(who) => {
+            answered(answer, done(rest)?)
+        }
+        _ => None,
+    }
+}
+
+fn is_bad(word: &[u8]) -> bool {
+    word == BAD.as_bytes()
+}
+
+/// Of the line printed, or of one that sent a frame.
+fn is_line_number(word: &[u8]) -> bool {
+    number_in(word, 1..=MOST_LINES).is_some()
+}
+
+fn is_box(word: &[u8]) -> bool {
+    number_in(word, 1..=MOST_BOXES.into()).is_some()
+}
+
+/// "`r` and the number, as `r9`". The numbers are those of events and
+/// settings: no script prints a page's refusals.
+fn is_refusal(word: &[u8]) -> bool {
+    let last = Refusal::LastView.number();
+    word.strip_prefix(b"r")
+        .and_then(|number| number_in(number, 1..=last.into()))
+        .is_some()
+}
+
+/// "answer (`ok`, `ignored`, or `r` and the number, as `r9`)"
+fn answered(answer: &[u8], done: Done) -> Option<Line> {
+    match answer {
+        b"ok" => Some(Line::Done(done)),
+        b"ignored" => Some(Line::Silent),
+        _ => is_refusal(answer).then_some(Line::Silent),
+    }
+}
+
+/// "period, view, base view, base period, state, line number if a frame was
+/// sent, command; `-` stands where there is no frame or command"
+fn done(fields: &[&[u8]]) -> Option<Done> {
+    let [k, v, vb, kb, x, frame, command] = *fields else {
+        return None;
+    };
+    counter(vb)?;
+    counter(kb)?;
+    values(x, MAX_STATES)?;
+    let is_frame = frame == b"-" || is_line_number(frame);
+    let done = Done {
+        period: counter(k)?,
+        view: counter(v)?,
+        values: command_values(command)?,
+    };
+    is_frame.then_some(done)
+}
+
+/// A number of 32 bits without a sign.
+fn counter(word: &[u8]) -> Option<u32> {
+    u32::try_from(number(word)?).ok()
+}
+
+/// The values of a command, or none of them where `-` stands; without either
+/// there is no line. Changes: "`*` is read and not shown".
+fn command_values(word: &[u8]) -> Option<Option<Vec<i32>>> {
+    if word == b"-" {
+        return Some(None);
+    }
+    let word = word.strip_suffix(b"*").unwrap_or(word);
+    values(word, MAX_COMMANDS).map(Some)
+}
+
+/// At least one value and at most so many, with commas between them.
+fn values(word: &[u8], most: usize) -> Option<Vec<i32>> {
+    let words = word.split(|&byte| byte == b',');
+    let values = words.map(|word| i32::try_from(number(word)?).ok());
+    let values: Vec<i32> = values.collect::<Option<_>>()?;
+    (values.len() <= most).then_some(values)
+}
+
+#[cfg(test)]
+mod tests {
+    use super::*;
+
+    const TEN_FIELDS: &str = "1 1 ok 1 0 0 1 0 1 5";
+
+    #[test]
+    fn an_ok_line_is_taken_with_its_command() {
+        let done = |values| {
+            Line::Done(Done {
+                period: 7,
+                view: 4_294_967_295,
+                values,
+            })
+        };
+        let cases = [
+            ("-", done(None)),
+            ("-50", done(Some(vec![-50]))),
+            ("-50*", done(Some(vec![-50]))),
+            ("1,-2,3,-4*", done(Some(vec![1, -2, 3, -4]))),
+        ];
+        for (command, line) in cases {
+            let text = format!("500 9 ok 7 4294967295 2 3 4,5 6 {command}");
+            assert_eq!(judge(text.as_bytes()), Some(line));
+        }
+    }
+
+    /// What each field of a line may hold, and what it may not.
+    #[test]
+    fn every_field_is_judged_by_itself() {
+        let counters = ("0 1 99 4294967295", "- -1 +1 01 00 -0 4294967296 x 1,1 1*");
+        let fields = [
+            ("1 9 500", "0 501 01 +1 -1 -"),
+            ("1 9", "0 10 01 -1 -"),
+            ("ok ignored r1 r9 r10 r12", "r r0 r13 r01 R1 Ok oks bad - 1"),
+            counters,
+            counters,
+            counters,
+            counters,
+            (
+                "0 -1 2147483647 -2147483648 1,2 0,-1,2,-3,4,-5",
+                "- 2147483648 -2147483649 01 -0 +1 1, ,1 1,,2 1,- 1;2 1* 1,2,3,4,5,6,7",
+            ),
+            ("- 1 500", "-- ? 0 501 01 -1 1*"),
+            (
+                "- 0 -1 5* 1,2,3,4 1,2,3,4* 2147483647 -2147483648*",
+                "-- * -* ** 5** *5 5, ,5 5*,6 5*,6* 5,* 2147483648 -2147483649 05 -0 -0* +5 \
+                 1,2,3,4,5 1,2,3,4,5* ? 5\r",
+            ),
+        ];
+        for (place, (good, bad)) in fields.into_iter().enumerate() {
+            for word in good.split(' ') {
+                assert!(with_field(place, word).is_some(), "{place} {word:?}");
+            }
+            for word in bad.split(' ').chain([""]) {
+                assert_eq!(with_field(place, word), None, "{place} {word:?}");
+            }
+        }
+    }
+
+    /// The judgement of a line with one field replaced.
+    fn with_field(place: usize, word: &str) -> Option<Line> {
+        let mut fields: Vec<&str> = TEN_FIELDS.split(' ').collect();
+        fields[place] = word;
+        judge(fields.join(" ").as_bytes())
+    }
+
+    #[test]
+    fn a_line_has_exactly_ten_fields() {
+        let ten = TEN_FIELDS;
+        assert!(judge(ten.as_bytes()).is_some());
+        for (at, _) in ten.match_indices(' ') {
+            assert_eq!(judge(&ten.as_bytes()[..at]), None);
+            assert_eq!(judge(&ten.as_bytes()[at + 1..]), None);
+            let doubled = format!("{} {}", &ten[..at], &ten[at..]);
+            assert_eq!(judge(doubled.as_bytes()), None);
+        }
+        // An ask's line has eleven, from L6 on.
+        for behind in [" ", " 1", " *", " -", "\r", "\t"] {
+            assert_eq!(judge(format!("{ten}{behind}").as_bytes()), None);
+            assert_eq!(judge(format!("{behind}{ten}").as_bytes()), None);
+        }
+    }
+}

@@ -1,6 +1,6 @@
 /*
  * The controller law of a winder in fixed point, the conversion of readings for it, the frames that its boxes send each other, their
- * commands, and the shift page of what they did: crate winder as a static library.
+ * commands, the shift page of what they did, and the replica that runs in a box: crate winder as a static library.
  *
  * Sizes. A controller has n states (1 to 6), m readings and p commands (each 1 to 4). Every area is as long as its prototype says,
  * whatever n, m and p are; places beyond n, m and p are not looked at.
@@ -11,8 +11,12 @@
  * A row of readings. present[j] is 0 where reading j is absent, and anything else where it is present; values[j] is its value. A count
  * goes there as it is; winder_convert_single makes mark and value of a single in newtons.
  *
+ * A replica is its record: WINDER_RECORD bytes, laid out as docs/RECORD.md says, that a host keeps, lends to each call, and stores. No call
+ * keeps anything else of it.
+ *
  * Results. Each call but winder_version and winder_convert_single returns 0, or the number of a refusal (enum winder_refusal); the lowest
- * number comes first. Refused, every area holds what it held.
+ * number comes first, but for 15, which comes first of all where a call is lent a replica. A step of a replica may also return
+ * WINDER_IGNORED. Refused or ignored, every area holds what it held; but for the lengths that a step has written, which are then 0.
  *
  * Asked of the caller: no pointer is null, not even one with the length 0; and an area that a call writes overlaps no other area of
  * that call. Nothing else is asked: any numbers may stand in the areas. The functions keep nothing between calls, and of the C library
@@ -28,8 +32,8 @@
  * The version: major version times 100, and minor version. A further call makes a new minor version; a call that is gone or means
  * something else makes a new major one. winder_version says for which version the archive was made.
  */
-#define WINDER_VERSION 102
-#define WINDER_VERSION_TEXT "1.2"
+#define WINDER_VERSION 103
+#define WINDER_VERSION_TEXT "1.3"
 
 /* The most states, readings and commands; the least of each is 1. */
 #define WINDER_STATES_MAX 6
@@ -48,6 +52,20 @@
 #define WINDER_PAGE_LINES 60
 #define WINDER_PAGE_AREA 4380
 
+/* The length of a record, and the most periods that a box may have missed. */
+#define WINDER_RECORD 616
+#define WINDER_MISSED_MAX 10000
+
+/* What a step returns where the event was ignored. */
+#define WINDER_IGNORED 256
+
+/* The kinds of readings that a tick takes; a kind of any other number is a missing reading too. */
+enum winder_reading {
+    WINDER_MISSING = 0,
+    WINDER_COUNT = 1, /* the bits are a count, an int32_t cast to uint32_t */
+    WINDER_SINGLE = 2 /* the bits are those of an IEEE 754 single, in newtons */
+};
+
 /* The kinds of frames. */
 enum winder_kind {
     WINDER_PROPOSE = 1,
@@ -57,13 +75,22 @@ enum winder_kind {
 };
 
 enum winder_refusal {
+    WINDER_REFUSED_GROUP = 1,       /* N not 3 to 9, or the own number not 1 to N */
     WINDER_REFUSED_SIZES = 2,       /* n, m or p outside its range */
     WINDER_REFUSED_COEFFICIENT = 3, /* a coefficient outside its range */
     WINDER_REFUSED_LIMITS = 4,      /* a lower limit above its upper */
-    WINDER_REFUSED_AREA = 5,        /* a frame area under 69 bytes */
+    WINDER_REFUSED_AREA = 5,        /* a frame area under 69 bytes, a command area under 24 or a record area under 616 */
+    WINDER_REFUSED_LAST_PERIOD = 6, /* a tick in period 4,294,967,295 */
+    WINDER_REFUSED_MARK = 7,        /* a reading present in a place at or above m */
     WINDER_REFUSED_FRAME = 8,       /* no frame: length, kind, part count, byte 3, pairs, marks or absent values; or no command */
+    WINDER_REFUSED_SENDER = 9,      /* a sender that is not 1 to N, or the box itself */
+    WINDER_REFUSED_PLACE = 10,      /* Propose or Decide not from its view's coordinator; Ack or Estimate at a box that isn't */
+    WINDER_REFUSED_BASE = 11,       /* base fields that the kind of frame does not have */
+    WINDER_REFUSED_LAST_VIEW = 12,  /* a view to be raised that is 4,294,967,295 */
     WINDER_REFUSED_PAGE_AREA = 13,  /* a page area under 4,380 bytes */
-    WINDER_REFUSED_PERIODS = 14     /* more than 60 distinct periods */
+    WINDER_REFUSED_PERIODS = 14,    /* more than 60 distinct periods */
+    WINDER_REFUSED_RECORD = 15,     /* no record: docs/RECORD.md has the conditions */
+    WINDER_REFUSED_MISSED = 16      /* more than 10,000 missed periods, or a period or view that would pass its largest value */
 };
 
 /* What the law is given once: sizes, tables and limits. */
@@ -266,6 +293,126 @@ uint32_t winder_write_page(
     uint8_t *area,
     size_t area_length,
     size_t *length);
+
+/*
+ * Makes a fresh replica of box `own` in a group of `boxes`: period and view 0, the starting state, no reading, no box heard. start is the
+ * starting state; of it and of the tables the replica keeps all places as they are given.
+ *
+ * Out: replica starts with its record, and bytes after it keep what they held. The steps take the record's WINDER_RECORD bytes alone.
+ *
+ * Refuses by 1, 2, 3 and 4, then by 5 for a replica_length under 616.
+ */
+uint32_t winder_make(
+    size_t n,
+    size_t m,
+    size_t p,
+    const int32_t a[36],
+    const int32_t l[24],
+    const int32_t c[24],
+    const int32_t k[24],
+    const int32_t low[4],
+    const int32_t high[4],
+    const int32_t start[6],
+    uint8_t boxes,
+    uint8_t own,
+    uint8_t *replica,
+    size_t replica_length);
+
+/* The same, with settings from a struct. */
+static inline uint32_t winder_make_with(
+    const struct winder_settings *settings,
+    const int32_t start[6],
+    uint8_t boxes,
+    uint8_t own,
+    uint8_t *replica,
+    size_t replica_length)
+{
+    return winder_make(
+        settings->n,
+        settings->m,
+        settings->p,
+        settings->a,
+        settings->l,
+        settings->c,
+        settings->k,
+        settings->low,
+        settings->high,
+        start,
+        boxes,
+        own,
+        replica,
+        replica_length);
+}
+
+/*
+ * The three steps of a replica: a tick with readings, a view given up, and bytes that arrived as a frame. replica: in, its record; out, the
+ * record after the step. replica_length is 616, else the step is refused by 15.
+ *
+ * Out: frame starts with the frame that the step sends, command with the command that it issues, and bytes after them keep what they held.
+ * lengths holds the length written to each, 0 where nothing was: it is written whatever the answer is. To whom a frame goes: Propose and
+ * Decide to all other boxes, an Ack and an Estimate to the coordinator of the frame's view, which is box (view mod N) + 1.
+ *
+ * kinds[j] and bits[j] are reading j: its kind (enum winder_reading), and its 32 bits.
+ *
+ * Each refuses by 15, then by 5 for a frame_length under 69 or a command_length under 24. Then a tick by 6, 7 and 12, a view given up by 12,
+ * bytes that arrived by 8, 9, 10 and 11. A tick is never ignored.
+ */
+uint32_t winder_tick(
+    uint8_t *replica,
+    size_t replica_length,
+    const uint8_t kinds[4],
+    const uint32_t bits[4],
+    uint8_t *frame,
+    size_t frame_length,
+    uint8_t *command,
+    size_t command_length,
+    size_t lengths[2]);
+
+uint32_t winder_give_up(
+    uint8_t *replica,
+    size_t replica_length,
+    uint8_t *frame,
+    size_t frame_length,
+    uint8_t *command,
+    size_t command_length,
+    size_t lengths[2]);
+
+uint32_t winder_arrive(
+    uint8_t *replica,
+    size_t replica_length,
+    const uint8_t *bytes,
+    size_t bytes_length,
+    uint8_t *frame,
+    size_t frame_length,
+    uint8_t *command,
+    size_t command_length,
+    size_t lengths[2]);
+
+/*
+ * Records a replica: its record at the start of another area. Bytes after it keep what they held.
+ *
+ * Refuses by 15, then by 5 for an area_length under 616.
+ */
+uint32_t winder_record(
+    const uint8_t *replica,
+    size_t replica_length,
+    uint8_t *area,
+    size_t area_length);
+
+/*
+ * Returns from a record after a power cycle: the replica that a box would be which stayed up, was handed no reading in so many missed
+ * periods and lost every frame. stored is the record that the box stored last.
+ *
+ * Out: replica starts with its record, and bytes after it keep what they held.
+ *
+ * Refuses by 15, then by 5 for a replica_length under 616, then by 16.
+ */
+uint32_t winder_return(
+    const uint8_t *stored,
+    size_t stored_length,
+    uint32_t missed,
+    uint8_t *replica,
+    size_t replica_length);
 
 #ifdef __cplusplus
 }

@@ -10,8 +10,8 @@ use Rattle.scram.specs.History.{In}
 use Rattle.law.specs.declared.Settings.{Settings}
 use Rattle.law.specs.Answer.{number}
 use Rattle.law.specs.Settings.{refusals, refusal}
-use Rattle.law.specs.Law.{commanded, issued}
-use Rattle.law.proofs.Laws.{updated-refused, commanded-refused, issued-refused}
+use Rattle.law.specs.Law.{commanded}
+use Rattle.law.proofs.Laws.{updated-refused, commanded-refused}
 use Rattle.winder.specs.LawAreas.{readingsOf}
 use Rattle.winder.proofs.Refused.{refused}
 use Rattle.answers.specs.Answers.{numbered, usingLaw}
@@ -37,9 +37,6 @@ module _ (s : Settings) where
 
   pub commanded-answers : (x : List ℤ) → CommandAnswers s (commanded s x)
   commanded-answers x = command-answers (commanded s x) (commanded-refused s x)
-
-  pub issued-answers : (x : List ℤ) (y : Readings) → CommandAnswers s (issued s x y)
-  issued-answers x y = command-answers (issued s x y) (issued-refused s x y)
 
   pub update-area-answers : (present : List ℕ) (values state : List ℤ) → UpdateAreaAnswers s present values state
   update-area-answers present values state r state′ e same =

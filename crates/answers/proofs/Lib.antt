@@ -5,4 +5,6 @@ mod Replica
 mod Law
 mod Frames
 mod Pages
+mod Records
+mod RecordAreas
 pub mod Theorem

@@ -1,19 +1,21 @@
 -- Laws of answers: an answer of a call's list is one of the documents', and what the first refusal of a place answers is in a list that has the
 -- numbers of its rows. Assumes nothing.
-use mathlib.Core.Path.{_≡_, refl, sym, ap, subst}
+use mathlib.Core.Path.{_≡_, refl, sym, ap, subst, _∙_}
 use mathlib.Core.Logic.{_⊎_, inl, inr, _≢_}
 use mathlib.Core.Bool.{Bool, true, false, not, _&&_, _||_}
 use mathlib.Core.List.{List, [], _∷_}
 use Prim.Native.Nat.{ℕ, zero, suc, _-_}
 use native.Mathlib.Omega.{arith}
 use lib.Dec.{T, eqb, leb, eqb→eq, leb→le}
+use borrow.Author.Tests.{eqb-true, ne-eqb}
 use Rattle.lists.specs.Choice.{pick}
 use Rattle.lists.specs.Refusals.{Refusal, firstOf}
 use Rattle.lists.proofs.Booleans.{and-left, and-right, or-cases, is-false}
-use Rattle.lists.proofs.Choice.{pick-ok, pick-false}
+use Rattle.lists.proofs.Choice.{pick-ok, pick-holds, pick-false}
 use Rattle.scram.specs.Answers.{Answered, Done, Ignored, Refused}
 use Rattle.scram.specs.History.{In}
-use Rattle.answers.specs.Answers.{Answers, Listed, numbered}
+use Rattle.winder.specs.Answers.{numberOf}
+use Rattle.answers.specs.Answers.{Answers, Listed, numbered, numberedStep}
 
 -- ---- every answer of a list is one of the documents'
 
@@ -21,7 +23,7 @@ abbrev pub allListed : List Answered → Bool
 allListed [] = true
 allListed (Done ∷ l) = allListed l
 allListed (Ignored ∷ l) = allListed l
-allListed (Refused number ∷ l) = leb 1 number && (leb number 14 && allListed l)
+allListed (Refused number ∷ l) = leb 1 number && (leb number 16 && allListed l)
 
 pub listed : (possible : List Answered) → T (allListed possible) → (a : Answered) → In a possible → Listed a
 listed [] t a i = absurd i
@@ -31,8 +33,8 @@ listed (Ignored ∷ l) t a (inl e) = subst Listed (sym e) tt
 listed (Ignored ∷ l) t a (inr i) = listed l t a i
 listed (Refused number ∷ l) t a (inl e) =
     subst Listed (sym e)
-    (leb→le 1 number (and-left (leb 1 number) _ t), leb→le number 14 (and-left (leb number 14) (allListed l) (and-right (leb 1 number) _ t)))
-listed (Refused number ∷ l) t a (inr i) = listed l (and-right (leb number 14) (allListed l) (and-right (leb 1 number) _ t)) a i
+    (leb→le 1 number (and-left (leb 1 number) _ t), leb→le number 16 (and-left (leb number 16) (allListed l) (and-right (leb 1 number) _ t)))
+listed (Refused number ∷ l) t a (inr i) = listed l (and-right (leb number 16) (allListed l) (and-right (leb 1 number) _ t)) a i
 
 -- ---- a number that a list has
 
@@ -76,6 +78,15 @@ pub refusal-in : (possible : List Answered) (number : ℕ) → T (not (eqb numbe
 refusal-in possible number t i =
     subst (λ a. In a possible) (pick-false (eqb number 0) Done (Refused number) (is-false (eqb number 0) t)) i
 
+-- ---- the claim about one call
+
+-- `answer` is what the call answers, and `given` is its definition
+pub answers-as : (possible : List Answered) → T (allListed possible) → (answer given : Answered) → answer ≡ given → In given possible
+    → (Kept : Type 0) → (given ≢ Done → Kept) → Answers possible answer Kept
+answers-as possible t answer given e i Kept kept =
+    let j = subst (λ a. In a possible) (sym e) i in
+    record { listed = listed possible t answer j; among = j; kept = λ n. kept (λ d. n (e ∙ d)) }
+
 -- ---- the claim about one call that answers by a number
 
 -- an answer other than "what was called for" is a number other than 0
@@ -92,5 +103,20 @@ positive (suc k) z = omega arith
 pub answers : (possible : List Answered) → T (allListed possible) → (number refused : ℕ) → number ≡ refused → In (numbered refused) possible
     → (Kept : Type 0) → ((refused ≡ 0 → ⊥) → Kept) → Answers possible (numbered number) Kept
 answers possible t number refused e i Kept kept =
-    let j = subst (λ k. In (numbered k) possible) (sym e) i in
-    record { listed = listed possible t (numbered number) j; among = j; kept = λ n. kept (λ z. not-zero number n (subst (λ k. k ≡ 0) (sym e) z)) }
+    answers-as possible t (numbered number) (numbered refused) (ap numbered e) i Kept (λ n. kept (not-zero refused n))
+
+-- ---- winder's numbers of answers
+
+-- the number of an answer by a number is that number
+pub number-of : (number : ℕ) → numberOf (numbered number) ≡ number
+number-of number =
+    pick-holds (λ a. numberOf a ≡ number) (eqb number 0) Done (Refused number) (λ e. sym (eqb-true number 0 e)) (λ _. refl)
+
+-- the number of a step for C tells its answer
+pub step-number : (a : Answered) → Listed a → numberedStep (numberOf a) ≡ a
+unfolding pick
+step-number Done l = refl
+step-number Ignored l = refl
+step-number (Refused number) l =
+    pick-false (eqb number 256) Ignored (numbered number) (ne-eqb number 256 (λ e. omega (arith, l .1, e)))
+    ∙ pick-false (eqb number 0) Done (Refused number) (ne-eqb number 0 (λ e. omega (arith, l .0, e)))

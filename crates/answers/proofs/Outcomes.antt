@@ -1,7 +1,6 @@
 -- What the protocol's steps answer, over any law: ignored or refused, a step holds what it held, sends no frame and issues no command.
 -- Assumes nothing.
 use mathlib.Core.Path.{_≡_, refl, subst, sym}
-use mathlib.Core.Logic.{inl, inr}
 use mathlib.Core.Bool.{Bool}
 use mathlib.Core.List.{List}
 use mathlib.Core.Option.{Option, none, some}
@@ -15,8 +14,8 @@ use Rattle.scram.specs.History.{In}
 use Rattle.scram.specs.Held.{Law, Group, Best, Held, Message, Outcome}
 use Rattle.scram.specs.Events.{refusing, ignoring, estimateOf, entered, ticked}
 use Rattle.scram.specs.Events.{raise, afterTick, tick, giveUp, hearAck, hearEstimate, receive, arrive, arrival}
-use Rattle.answers.specs.Answers.{Answers, ticking, givingUp, arriving}
-use Rattle.answers.proofs.Numbers.{allListed, listed, refused-in}
+use Rattle.answers.specs.Answers.{Answers}
+use Rattle.answers.proofs.Numbers.{allListed, listed, hasNumber, refused-in}
 
 module _ {State Readings Values : Type 0} where
   -- nothing has changed, and nothing is sent or issued
@@ -76,35 +75,40 @@ module _ {State Readings Values : Type 0} where
     receive-does Kind.Estimate s m =
         pick-ok Does _ _ _ (λ _. estimate-does (entered own s (m .view)) (estimateOf m)) (λ _. estimate-does s (estimateOf m))
 
-    -- ---- the three events
+    -- ---- the three events, in a list that has the numbers of their refusals
 
-    module _ (s : Held State Readings) where
-      pub tick-answers : (beyond : Bool) (y : Readings) → Step ticking s (tick law group own s beyond y)
+    module _ (possible : List Answered) (t : T (allListed possible)) (done : In Done possible) (s : Held State Readings) where
+      pub tick-answers : T (hasNumber possible 6) → T (hasNumber possible 7) → T (hasNumber possible 12) → (beyond : Bool) (y : Readings)
+          → Step possible s (tick law group own s beyond y)
       unfolding tick
-      tick-answers beyond y =
-          pick-ok (Step ticking s) _ _ _ (λ _. refuses ticking tt s 6 (refused-in ticking 6 tt))
-          (λ _. pick-ok (Step ticking s) _ _ _ (λ _. refuses ticking tt s 7 (refused-in ticking 7 tt))
-          (λ _. pick-ok (Step ticking s) _ _ _ (λ _. refuses ticking tt s 12 (refused-in ticking 12 tt))
-          (λ _. does ticking tt s (inl refl) _ (after-tick-does (ticked law s y)))))
+      tick-answers six seven twelve beyond y =
+          pick-ok (Step possible s) _ _ _ (λ _. refuses possible t s 6 (refused-in possible 6 six))
+          (λ _. pick-ok (Step possible s) _ _ _ (λ _. refuses possible t s 7 (refused-in possible 7 seven))
+          (λ _. pick-ok (Step possible s) _ _ _ (λ _. refuses possible t s 12 (refused-in possible 12 twelve))
+          (λ _. does possible t s done _ (after-tick-does (ticked law s y)))))
 
-      pub give-up-answers : Step givingUp s (giveUp law group own s)
-      unfolding giveUp
-      give-up-answers =
-          pick-ok (Step givingUp s) _ _ _ (λ _. ignores givingUp tt s (inr (inl refl)))
-          (λ _. pick-ok (Step givingUp s) _ _ _ (λ _. ignores givingUp tt s (inr (inl refl)))
-          (λ _. pick-ok (Step givingUp s) _ _ _ (λ _. refuses givingUp tt s 12 (refused-in givingUp 12 tt))
-          (λ _. does givingUp tt s (inl refl) _ (raise-does s))))
+      module _ (ignored : In Ignored possible) where
+        pub give-up-answers : T (hasNumber possible 12) → Step possible s (giveUp law group own s)
+        unfolding giveUp
+        give-up-answers twelve =
+            pick-ok (Step possible s) _ _ _ (λ _. ignores possible t s ignored)
+            (λ _. pick-ok (Step possible s) _ _ _ (λ _. ignores possible t s ignored)
+            (λ _. pick-ok (Step possible s) _ _ _ (λ _. refuses possible t s 12 (refused-in possible 12 twelve))
+            (λ _. does possible t s done _ (raise-does s))))
 
-      arrive-answers : (m : Message State Readings) → Step arriving s (arrive law group own s m)
-      unfolding arrive
-      arrive-answers m =
-          pick-ok (Step arriving s) _ _ _ (λ _. refuses arriving tt s 9 (refused-in arriving 9 tt))
-          (λ _. pick-ok (Step arriving s) _ _ _ (λ _. refuses arriving tt s 10 (refused-in arriving 10 tt))
-          (λ _. pick-ok (Step arriving s) _ _ _ (λ _. refuses arriving tt s 11 (refused-in arriving 11 tt))
-          (λ _. pick-ok (Step arriving s) _ _ _ (λ _. ignores arriving tt s (inr (inl refl)))
-          (λ _. does arriving tt s (inl refl) _ (receive-does (m .kind) s m)))))
+        module _
+            (eight : T (hasNumber possible 8)) (nine : T (hasNumber possible 9)) (ten : T (hasNumber possible 10)) (eleven : T (hasNumber possible 11))
+          where
+            arrive-answers : (m : Message State Readings) → Step possible s (arrive law group own s m)
+            unfolding arrive
+            arrive-answers m =
+                pick-ok (Step possible s) _ _ _ (λ _. refuses possible t s 9 (refused-in possible 9 nine))
+                (λ _. pick-ok (Step possible s) _ _ _ (λ _. refuses possible t s 10 (refused-in possible 10 ten))
+                (λ _. pick-ok (Step possible s) _ _ _ (λ _. refuses possible t s 11 (refused-in possible 11 eleven))
+                (λ _. pick-ok (Step possible s) _ _ _ (λ _. ignores possible t s ignored)
+                (λ _. does possible t s done _ (receive-does (m .kind) s m)))))
 
-      pub arrival-answers : (m : Option (Message State Readings)) → Step arriving s (arrival law group own s m)
-      unfolding arrival
-      arrival-answers none = refuses arriving tt s 8 (refused-in arriving 8 tt)
-      arrival-answers (some m) = arrive-answers m
+            pub arrival-answers : (m : Option (Message State Readings)) → Step possible s (arrival law group own s m)
+            unfolding arrival
+            arrival-answers none = refuses possible t s 8 (refused-in possible 8 eight)
+            arrival-answers (some m) = arrive-answers m

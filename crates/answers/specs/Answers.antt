@@ -29,6 +29,14 @@ frame = 8 ∷ 9 ∷ 10 ∷ 11 ∷ []
 abbrev pub raising : List ℕ
 raising = 12 ∷ []
 
+-- the place of document 02's 15: a record
+abbrev pub records : List ℕ
+records = 15 ∷ []
+
+-- the place of document 02's 16: missed periods
+abbrev pub missed : List ℕ
+missed = 16 ∷ []
+
 -- ---- what each call can answer: nothing that is not in its list
 
 -- "Making settings refuses without a replica."
@@ -72,17 +80,63 @@ writingPage = Done ∷ map Refused (2 ∷ 13 ∷ 14 ∷ [])
 abbrev pub readingPage : List Answered
 readingPage = Done ∷ map Refused (2 ∷ 14 ∷ [])
 
+-- recording a replica, of document 02: its settings, then "5 also for a record area too short"
+abbrev pub recording : List Answered
+recording = Done ∷ map Refused (settings ++ areas)
+
+-- reading a record
+abbrev pub readingRecord : List Answered
+readingRecord = Done ∷ map Refused records
+
+-- staying up over missed periods, of a replica at hand
+abbrev pub stayingUp : List Answered
+stayingUp = Done ∷ map Refused missed
+
+-- "on return, in order: 15 .. 16"
+abbrev pub returning : List Answered
+returning = Done ∷ map Refused (records ++ missed)
+
+-- ---- the calls of C programs, where "a replica is its record; one that 15 would refuse gets 15 before the lent areas"
+
+-- making writes a record: the settings, then the area for it
+abbrev pub makingRecord : List Answered
+makingRecord = Done ∷ map Refused (settings ++ areas)
+
+-- a step of a record is refused by none of 1 to 4: a record with such settings gets 15
+abbrev pub tickingRecord : List Answered
+tickingRecord = Done ∷ map Refused (records ++ areas ++ tick ++ raising)
+
+-- a view given up, in the same way
+abbrev pub givingUpRecord : List Answered
+givingUpRecord = Done ∷ Ignored ∷ map Refused (records ++ areas ++ raising)
+
+-- and bytes that arrive
+abbrev pub arrivingRecord : List Answered
+arrivingRecord = Done ∷ Ignored ∷ map Refused (records ++ areas ++ frame)
+
+-- recording: a record is handed in, and an area is lent
+abbrev pub recordingRecord : List Answered
+recordingRecord = Done ∷ map Refused (records ++ areas)
+
+-- returning: 16 looks at the record, after the area
+abbrev pub returningRecord : List Answered
+returningRecord = Done ∷ map Refused (records ++ areas ++ missed)
+
 -- ---- the claim about one call
 
 -- a number as an answer: 0 is "what was called for", another number is that refusal
 abbrev pub numbered : ℕ → Answered
 numbered number = pick (eqb number 0) Done (Refused number)
 
--- "what was called for, an event ignored, or one of the numbered refusals"; the table has the numbers 1 to 12, which document 02's 13 and 14 join
+-- the number of a step for C, as winder's `numberOf` gives it: 256 is "an event ignored"
+abbrev pub numberedStep : ℕ → Answered
+numberedStep number = pick (eqb number 256) Ignored (numbered number)
+
+-- "what was called for, an event ignored, or one of the numbered refusals"; the table has the numbers 1 to 12, which document 02's 13 to 16 join
 abbrev pub Listed : Answered → Type 0
 Listed Done = Unit {0}
 Listed Ignored = Unit {0}
-Listed (Refused number) = (1 ≤ number) × (number ≤ 14)
+Listed (Refused number) = (1 ≤ number) × (number ≤ 16)
 
 -- "Every call, with all inputs, answers: what was called for, an event ignored, or one of the numbered refusals. Ignored or refused, the replica and
 -- each lent area hold what they held." `possible` are the answers of this call, and `Kept` says what holds what it held

@@ -10,6 +10,8 @@ use lib.IntN.{ℤ, pos}
 use Rattle.readings.specs.declared.Readings.{Readings}
 use Rattle.transmitters.specs.declared.Reading.{Reading}
 use Rattle.transmitters.specs.Conversion.{convertedRow}
+use Rattle.transmitters.specs.Numbers.{readingsOf as readingsByKind}
+use Rattle.scram.specs.declared.Answer.{Answer}
 use Rattle.scram.specs.Answers.{Answered, answered}
 use Rattle.law.specs.declared.Settings as Law
 use Rattle.law.specs.declared.Answer.{Answer as LawAnswer}
@@ -17,7 +19,7 @@ use Rattle.law.specs.declared.Updated.{Updated}
 use Rattle.law.specs.declared.Commanded.{Commanded}
 use Rattle.law.specs.Answer.{number as lawNumber}
 use Rattle.law.specs.Settings.{refusal, settingsOf}
-use Rattle.law.specs.Law.{updated, commanded, issued}
+use Rattle.law.specs.Law.{updated, commanded}
 use Rattle.bytes.specs.Areas.{over}
 use Rattle.frame.specs.declared.Frame.{Frame}
 use Rattle.frame.specs.declared.Parsed.{Parsed}
@@ -40,13 +42,24 @@ use Rattle.winder.specs.Areas.{unlessRefused}
 use Rattle.winder.specs.PageAreas.{lengthAfter as pageLengthAfter}
 use Rattle.winder.specs.LawAreas.{readingsOf, commandsAfter}
 use Rattle.winder.specs.FrameAreas.{frameOf, kindAndSenderOf, countersOf, marksOf, lengthAfter}
+use Rattle.winder.specs.Answers.{numberOf}
+use Rattle.winder.specs.ReplicaAreas.{settingsOf as replicaSettingsOf, stepAt, Steps, recordingRefusal, returningRefusal}
+use Rattle.winder.specs.ReplicaAreas.{recording as recordingAt, returning as returningAt}
 use Rattle.replica.specs.declared.Settings.{Settings}
 use Rattle.replica.specs.declared.Replica.{Replica}
 use Rattle.replica.specs.declared.Made.{Made}
 use Rattle.replica.specs.declared.Stepped.{Stepped}
-use Rattle.replica.specs.Calls.{Outcomes, Gives, tickOutcome, giveUpOutcome, arriveOutcome, madeAnswer, made}
-use Rattle.answers.specs.Answers.{Answers, numbered, making, ticking, givingUp, arriving, usingLaw, reading, writing, writingCommand, writingPage, readingPage}
-use Rattle.answers.specs.Kept.{StepKept, NoReplica, WriteKept, PageKept, FrameAreas, CommandAreas, WriteAreas}
+use Rattle.replica.specs.Calls.{Outcomes, Gives, tickOutcome, giveUpOutcome, arriveOutcome, freshOf, madeAnswer, made}
+use Rattle.records.specs.declared.reading.Parsed.{Parsed as RecordParsed}
+use Rattle.records.specs.declared.returning.Returned.{Returned}
+use Rattle.records.specs.Recording.{recordAnswer, recorded}
+use Rattle.records.specs.Reading.{readAnswer, readReplica}
+use Rattle.records.specs.Returning.{stayAnswer, stayed, returnAnswer, returned}
+use Rattle.answers.specs.Answers.{Answers, numbered, numberedStep}
+use Rattle.answers.specs.Answers.{making, ticking, givingUp, arriving, usingLaw, reading, writing, writingCommand, writingPage, readingPage}
+use Rattle.answers.specs.Answers.{recording, readingRecord, stayingUp, returning}
+use Rattle.answers.specs.Answers.{makingRecord, tickingRecord, givingUpRecord, arrivingRecord, recordingRecord, returningRecord}
+use Rattle.answers.specs.Kept.{StepKept, NoReplica, RecordStepKept, WriteKept, PageKept, FrameAreas, CommandAreas, WriteAreas}
 
 -- ---- the replica's calls
 
@@ -114,6 +127,32 @@ ReadPageAnswers p bytes =
     (r : PageRead) → pageNumber (r .answer) ≡ readPageRefusal p bytes → r .page ≡ pageOf (readEntries p bytes)
     → Answers readingPage (numbered (pageNumber (r .answer))) (r .page ≡ pageOf [])
 
+-- ---- the record's calls
+
+-- recording the replica `given`
+abbrev pub RecordAnswers : Replica → (area : List ℕ) → Type 0
+RecordAnswers given area =
+    (r : Answer) (area′ : List ℕ) → answered r ≡ recordAnswer (given .settings) (length area) → area′ ≡ over (recorded given (length area)) area
+    → Answers recording (answered r) (area′ ≡ area)
+
+-- reading a record
+abbrev pub ReadRecordAnswers : List ℕ → Type 0
+ReadRecordAnswers bytes =
+    (r : RecordParsed) → answered (r .answer) ≡ readAnswer bytes → r .replica ≡ readReplica bytes
+    → Answers readingRecord (answered (r .answer)) (NoReplica (r .replica))
+
+-- staying up: refused, it gives the replica handed in
+abbrev pub StayAnswers : (missed : ℕ) → Replica → Type 0
+StayAnswers missed given =
+    (r : Returned) → answered (r .answer) ≡ stayAnswer missed given → r .replica ≡ stayed missed given
+    → Answers stayingUp (answered (r .answer)) (r .replica ≡ given)
+
+-- returning from a record
+abbrev pub ReturnAnswers : (missed : ℕ) → List ℕ → Type 0
+ReturnAnswers missed bytes =
+    (r : Returned) → answered (r .answer) ≡ returnAnswer missed bytes → r .replica ≡ returned missed bytes
+    → Answers returning (answered (r .answer)) (NoReplica (r .replica))
+
 -- ---- the calls of C programs: they answer by the number alone
 
 -- winder_update
@@ -161,6 +200,33 @@ WritePageAreaAnswers p entries areas =
     → areas′ .length ≡ pageLengthAfter p entries (areas .area) (areas .length)
     → Answers writingPage (numbered r) (areas′ ≡ areas)
 
+-- winder_make, of the settings in the areas that the caller lends to read
+abbrev pub MakeAreaAnswers : Settings → (replica : List ℕ) → Type 0
+MakeAreaAnswers s replica =
+    (r : ℕ) (replica′ : List ℕ) → r ≡ numberOf (recordAnswer s (length replica))
+    → replica′ ≡ over (recorded (freshOf s) (length replica)) replica
+    → Answers makingRecord (numbered r) (replica′ ≡ replica)
+
+-- winder_tick, winder_give_up and winder_arrive, with the outcome o: replica is the record, frame and command are the areas lent, and lengths are the
+-- two numbers that the call writes in any case
+abbrev pub StepAreaAnswers : List Answered → (replica : List ℕ) → Outcomes → (frame command : List ℕ) → Type 0
+StepAreaAnswers possible replica o frame command =
+    (r : ℕ) (replica′ lengths frame′ command′ : List ℕ) → Steps replica o r replica′ lengths frame frame′ command command′
+    → Answers possible (numberedStep r) (RecordStepKept replica replica′ lengths frame frame′ command command′)
+
+-- winder_record
+abbrev pub RecordAreaAnswers : (replica area : List ℕ) → Type 0
+RecordAreaAnswers replica area =
+    (r : ℕ) (area′ : List ℕ) → r ≡ recordingRefusal replica (length area) → area′ ≡ over (recordingAt replica (length area)) area
+    → Answers recordingRecord (numbered r) (area′ ≡ area)
+
+-- winder_return
+abbrev pub ReturnAreaAnswers : (missed : ℕ) (stored replica : List ℕ) → Type 0
+ReturnAreaAnswers missed stored replica =
+    (r : ℕ) (replica′ : List ℕ) → r ≡ returningRefusal missed stored (length replica)
+    → replica′ ≡ over (returningAt missed stored (length replica)) replica
+    → Answers returningRecord (numbered r) (replica′ ≡ replica)
+
 -- ---- demand 1: every call, with all inputs
 
 pub record DemandOne : Type 0 where
@@ -181,8 +247,6 @@ pub record DemandOne : Type 0 where
   pub tables-update : (n m p : ℕ) (a l c k low high x : List ℤ) (y : Readings) → UpdateAnswers (settingsOf n m p a l c k low high) x y
   pub tables-command : (n m p : ℕ) (a l c k low high x : List ℤ)
       → let s = settingsOf n m p a l c k low high in CommandAnswers s (commanded s x)
-  pub tables-issue : (n m p : ℕ) (a l c k low high x : List ℤ) (y : Readings)
-      → let s = settingsOf n m p a l c k low high in CommandAnswers s (issued s x y)
   -- crate frame
   pub read : (n m : ℕ) (bytes : List ℕ) → ReadAnswers n m bytes
   pub write : (n m : ℕ) (f : Frame) (area : List ℕ) → WriteAnswers writing (writeRefusal n m f area) (written n m f area) area
@@ -192,6 +256,11 @@ pub record DemandOne : Type 0 where
   -- crate pages
   pub write-page : (p : ℕ) (words area : List ℕ) → WritePageAnswers p (entriesOf words) area
   pub read-page : (p : ℕ) (bytes : List ℕ) → ReadPageAnswers p bytes
+  -- crate records
+  pub record-replica : (given : Replica) (area : List ℕ) → RecordAnswers given area
+  pub read-record : (bytes : List ℕ) → ReadRecordAnswers bytes
+  pub stay-up : (given : Replica) (missed : ℕ) → StayAnswers missed given
+  pub return-from : (bytes : List ℕ) (missed : ℕ) → ReturnAnswers missed bytes
   -- crate winder
   pub winder-update : (n m p : ℕ) (a l c k low high : List ℤ) (present : List ℕ) (values state : List ℤ)
       → UpdateAreaAnswers (settingsOf n m p a l c k low high) present values state
@@ -202,3 +271,14 @@ pub record DemandOne : Type 0 where
   pub winder-write-frame : (n m : ℕ) (kindAndSender counters : List ℕ) (state : List ℤ) (present : List ℕ) (values : List ℤ) (areas : WriteAreas)
       → WriteAreaAnswers n m (frameOf kindAndSender counters state present values) areas
   pub winder-write-page : (p : ℕ) (entries : List ℕ) (areas : WriteAreas) → WritePageAreaAnswers p (entriesOf entries) areas
+  pub winder-make : (n m p : ℕ) (a l c k low high start : List ℤ) (boxes own : ℕ) (replica : List ℕ)
+      → MakeAreaAnswers (replicaSettingsOf n m p a l c k low high start boxes own) replica
+  pub winder-tick : (replica kinds bits frame command : List ℕ)
+      → let y = convertedRow (readingsByKind kinds bits) in
+      StepAreaAnswers tickingRecord replica (stepAt replica (λ x. tickOutcome x y (length frame) (length command))) frame command
+  pub winder-give-up : (replica frame command : List ℕ)
+      → StepAreaAnswers givingUpRecord replica (stepAt replica (λ x. giveUpOutcome x (length frame) (length command))) frame command
+  pub winder-arrive : (replica bytes frame command : List ℕ)
+      → StepAreaAnswers arrivingRecord replica (stepAt replica (λ x. arriveOutcome x bytes (length frame) (length command))) frame command
+  pub winder-record : (replica area : List ℕ) → RecordAreaAnswers replica area
+  pub winder-return : (stored : List ℕ) (missed : ℕ) (replica : List ℕ) → ReturnAreaAnswers missed stored replica

@@ -1,7 +1,7 @@
 -- What holds what it held after a call that was ignored or refused, and what such a call gives.
 use Prim.Native.Nat.{ℕ}
 use mathlib.Core.Path.{_≡_}
-use mathlib.Core.List.{List}
+use mathlib.Core.List.{List, [], _∷_}
 use lib.IntN.{ℤ}
 use Rattle.readings.specs.declared.Readings.{Readings}
 use Rattle.scram.specs.Answers.{Refused}
@@ -21,11 +21,20 @@ pub record StepKept (given : Replica) (r : Stepped) (frame frame′ command comm
   pub no-frame : r .frame ≡ 0
   pub no-command : r .command ≡ 0
 
--- "Making settings refuses without a replica": what stands in the place of one is refused by 1 in every step, whatever the event and the areas
+-- "Making settings refuses without a replica", and so do reading a record and returning from one: what stands in the place of a replica is refused by
+-- 1 in every step, whatever the event and the areas
 pub record NoReplica (r : Replica) : Type 0 where
   pub tick : (y : Readings) (frame command : ℕ) → tickOutcome r y frame command .answer ≡ Refused 1
   pub give-up : (frame command : ℕ) → giveUpOutcome r frame command .answer ≡ Refused 1
   pub arrive : (bytes : List ℕ) (frame command : ℕ) → arriveOutcome r bytes frame command .answer ≡ Refused 1
+
+-- a step for C left the record b of its replica and both areas, to the last byte, as they were: "no frame and no command", so the two lengths that it
+-- writes are 0, whatever the caller had there
+pub record RecordStepKept (b b′ lengths frame frame′ command command′ : List ℕ) : Type 0 where
+  pub replica : b′ ≡ b
+  pub frame-area : frame′ ≡ frame
+  pub command-area : command′ ≡ command
+  pub no-bytes : lengths ≡ 0 ∷ 0 ∷ []
 
 -- ---- calls that write to one area
 

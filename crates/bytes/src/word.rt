@@ -12,10 +12,11 @@ fn join_2(a: u8, b: u8) -> usize
     (a as usize) + 256 * (b as usize)
 }
 
+// One sum of four, so that the compiler makes one load of it.
 fn join_4(a: u8, b: u8, c: u8, d: u8) -> u32
     ensures { λ r. ⌜ r ≡ a + 256 * (b + 256 * (c + 256 * d)) ⌝ }
 {
-    (a as u32) + 256 * ((b as u32) + 256 * ((c as u32) + 256 * (d as u32)))
+    (a as u32) + 256 * (b as u32) + 65536 * (c as u32) + 16777216 * (d as u32)
 }
 
 pub fn u16_at(bytes: &[u8], at: usize) -> usize

@@ -46,8 +46,16 @@ fn present_or_zero(mark: bool, value: i32) -> bool
     if mark { true } else { value == 0 }
 }
 
+// No mark at or above m in a byte of marks.
+pub fn marks_below(m: usize, marks: u8) -> bool
+    requires { ⌜ (1 ≤ m) × (m ≤ 4) ⌝ }
+    ensures { λ r. ⌜ r ≡ marksBelow m marks ⌝ }
+{
+    marks < first_beyond(m)
+}
+
 // Each of the first m values that is absent is 0.
-fn absent_zero(m: usize, y: Readings) -> bool
+pub fn absent_zero(m: usize, y: Readings) -> bool
     requires { ⌜ m ≤ 4 ⌝ }
     ensures { λ r. ⌜ r ≡ absentZero m y ⌝ }
 {
@@ -68,7 +76,7 @@ pub fn readings_ok(m: usize, marks: u8, y: Readings) -> bool
     requires { ⌜ (1 ≤ m) × (m ≤ 4) ⌝ }
     ensures { λ r. ⌜ r ≡ (marksBelow m marks && absentZero m y) ⌝ }
 {
-    if marks < first_beyond(m) {
+    if marks_below(m, marks) {
         return absent_zero(m, y);
     }
     false

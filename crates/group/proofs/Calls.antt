@@ -27,17 +27,19 @@ use Rattle.replica.specs.Settings.{settingsRefusal, lawOf, memberOf, groupOf}
 use Rattle.replica.specs.Held.{heldIn}
 use Rattle.replica.specs.Frames.{sentBytes, issuedBytes}
 use Rattle.replica.specs.Calls.{Outcomes, checked, stepRefusal, tickOutcome, giveUpOutcome, arriveOutcome}
-use Rattle.replica.proofs.Accepted.{accepted}
+use Rattle.replica.proofs.Accepted.{Grouped, accepted}
 use Rattle.replica.proofs.Calls.{checked-refused, checked-done, ready}
 use Rattle.group.specs.Group.{Handed, Areas, outcomeOf, resultOf, settingsOf, group}
 use Rattle.group.proofs.Typed.{Typed, Carried, CarriedSent, Keeps, fresh-typed, row-ok, tick-keeps, giveUp-keeps, arrive-keeps}
+use Rattle.group.proofs.Ordered.{Ordered, fresh-ordered, tick-ordered, giveUp-ordered, arrive-ordered}
 use Rattle.group.proofs.Reread.{found-sent}
 
 module _ (N : ℕ) (law : Law.Settings) where
-  -- a replica of box i has the group's settings with its own number, and fields within their types
+  -- a replica of box i has the group's settings with its own number, and fields within their types and in the order that records ask for
   pub record Kept (i : ℕ) (c : Replica) : Type 0 where
     pub settings : c .settings ≡ settingsOf N law i
     pub typed : Typed law (heldIn (c .held))
+    pub ordered : Ordered (lawOf law) N (heldIn (c .held))
 
   -- all boxes have one group
   abbrev G : Group
@@ -52,10 +54,10 @@ module _ (N : ℕ) (law : Law.Settings) where
     abbrev Shows : Replica → Outcomes → Outcomes → Type 0
     Shows c o p = Steps o (resultOf (c .settings) p) ⊎ Still c (resultOf (c .settings) p)
 
-    -- a step that keeps to the types is shown by its result
-    does : (o : Outcomes) → Keeps law o → Steps o (resultOf (settingsOf N law i) o)
-    does o k = record {
-      kept = record { settings = refl; typed = k .typed };
+    -- a step that keeps to the types and to the order is shown by its result
+    does : (o : Outcomes) → Keeps law o → Ordered (lawOf law) N (o .held) → Steps o (resultOf (settingsOf N law i) o)
+    does o k l = record {
+      kept = record { settings = refl; typed = k .typed; ordered = l };
       held = refl;
       refused = refl;
       frame = frame (o .sent) (k .sent);
@@ -77,9 +79,9 @@ module _ (N : ℕ) (law : Law.Settings) where
       abbrev afterChecks : Outcomes → Outcomes
       afterChecks o = checked r (length (a .frame)) (length (a .command)) o
 
-      -- a call that is not refused for its settings or areas goes on to the step, of a box whose number a frame can carry
-      checked-shows : (o : Outcomes) → (i < 256 → Keeps law o) → Shows r o (afterChecks o)
-      checked-shows o keeps = by (eqb number 0) refl
+      -- a call that is not refused for its settings or areas goes on to the step, of a box of the group
+      checked-shows : (o : Outcomes) → (Grouped N i → Keeps law o) → (Grouped N i → Ordered (lawOf law) N (o .held)) → Shows r o (afterChecks o)
+      checked-shows o keeps orders = by (eqb number 0) refl
         where
           number : ℕ
           number = stepRefusal (r .settings) (length (a .frame)) (length (a .command))
@@ -92,22 +94,33 @@ module _ (N : ℕ) (law : Law.Settings) where
               let z = eqb-true number 0 t in
               let g = accepted (r .settings) (ready (r .settings) (length (a .frame)) (length (a .command)) z .settings) .group in
               inl (subst (λ p. Steps o (resultOf (r .settings) p)) (checked-done r (length (a .frame)) (length (a .command)) o z)
-              (does o (keeps (omega (arith, g .ownN, g .N9)))))
+              (does o (keeps g) (orders g)))
 
     -- ---- the protocol's step for each input
 
     abbrev stepOf : Held → Input Handed (Message (List ℤ) Readings) → Outcomes
     stepOf h x = outcome (group N law) (lawOf law) G i (heldIn h) x
 
+    -- it keeps to the order
+    orders : (h : Held) (x : Input Handed (Message (List ℤ) Readings)) → Ordered (lawOf law) N (heldIn h) → Grouped N i
+        → Ordered (lawOf law) N (stepOf h x .held)
+    orders h (Tick y) o g = tick-ordered (lawOf law) G i (g .own1, g .ownN) (heldIn h) _ _ o
+    orders h (Arrival m) o g = arrive-ordered (lawOf law) G i (g .own1, g .ownN) (heldIn h) m o
+    orders h GiveUp o g = giveUp-ordered (lawOf law) G i (g .own1, g .ownN) (heldIn h) o
+
+    -- a frame can carry the number of a box of the group
+    carries : Grouped N i → i < 256
+    carries g = omega (arith, g .ownN, g .N9)
+
     module _ (refuses : refusal law ≡ 0) (h : Held) where
       -- it keeps to the types
-      keeps : (x : Input Handed (Message (List ℤ) Readings)) → Typed law (heldIn h) → Arrives (group N law) (Carried law) x → i < 256
+      keeps : (x : Input Handed (Message (List ℤ) Readings)) → Typed law (heldIn h) → Arrives (group N law) (Carried law) x → Grouped N i
           → Keeps law (stepOf h x)
-      keeps (Tick y) t w place =
+      keeps (Tick y) t w g =
           let row = convertedRow (y .readings) in
-          tick-keeps law refuses G i place (heldIn h) _ _ t (row-ok law row (row-i32 (y .readings) (y .i32)))
-      keeps (Arrival m) t w place = arrive-keeps law refuses G i place (heldIn h) m t w
-      keeps GiveUp t w place = giveUp-keeps law refuses G i place (heldIn h) t
+          tick-keeps law refuses G i (carries g) (heldIn h) _ _ t (row-ok law row (row-i32 (y .readings) (y .i32)))
+      keeps (Arrival m) t w g = arrive-keeps law refuses G i (carries g) (heldIn h) m t w
+      keeps GiveUp t w g = giveUp-keeps law refuses G i (carries g) (heldIn h) t
 
       -- the call is this step after the checks; what arrives is read as the message that was sent
       same : (x : Input Handed (Message (List ℤ) Readings)) (a : Areas) → Arrives (group N law) (Carried law) x
@@ -126,14 +139,14 @@ module _ (N : ℕ) (law : Law.Settings) where
     calls i c x a k w =
         subst (λ c. Shows i c (stepOf i (c .held) x) (outcomeOf c (inBytes (group N law) x) a)) (λ j. record { settings = sym (k .settings) j; held = c .held })
         (subst (Shows i (r i (c .held) a) (stepOf i (c .held) x)) (same i refuses (c .held) x a w)
-        (checked-shows i (c .held) a (stepOf i (c .held) x) (keeps i refuses (c .held) x (k .typed) w)))
+        (checked-shows i (c .held) a (stepOf i (c .held) x) (keeps i refuses (c .held) x (k .typed) w) (orders i (c .held) x (k .ordered))))
 
     read : (c : Command (List ℤ)) → c .period ≤ largest → group N law .commandPeriod (group N law .commandBytes c) ≡ c .period
     read c h = period-read (law .p) (c .period) (c .values) (omega arith)
 
     pub shown : Shown (group N law) Kept (Carried law) (lawOf law) G
     shown = record {
-      freshKept = λ i. record { settings = refl; typed = fresh-typed law start };
+      freshKept = λ i. record { settings = refl; typed = fresh-typed law start; ordered = fresh-ordered (lawOf law) N };
       freshHeld = λ i. refl;
       calls = calls;
       periodRead = read;

@@ -63,7 +63,7 @@ parts-or-none law Kind.Estimate x o = inl (kinds-parts .3)
 -- ---- states
 
 -- six places with 0 beyond n are what their first n places give
-first-states : (n : ℕ) (x : List ℤ) → length x ≡ 6 → ((i : ℕ) → n ≤ i → entry x i ≡ pos 0) → firstStates n x ≡ x
+pub first-states : (n : ℕ) (x : List ℤ) → length x ≡ 6 → ((i : ℕ) → n ≤ i → entry x i ≡ pos 0) → firstStates n x ≡ x
 first-states n x six beyond =
     ext-getD (pos 0) (firstStates n x) x (filled-length (pos 0) 6 n (entry x) ∙ sym six)
     (λ i l. at i (let e = filled-length (pos 0) 6 n (entry x) in omega arith) (decLt i n))

@@ -74,6 +74,3 @@ module _ (s : Settings) (x : List ℤ) (y : Readings) where
   pub issued-commanded : commanded s (updated s x y) ≡ issued s x y
   unfolding issued
   issued-commanded = refl
-
-  pub issued-refused : (refusal s ≡ 0 → ⊥) → replicate 4 (pos 0) ≡ issued s x y
-  issued-refused h = commanded-refused s (updated s x y) h ∙ issued-commanded

@@ -62,7 +62,7 @@ pub fn update<'a, 'b>(
         let state = *state;
         return Updated { answer, state };
     }
-    let next = updated_state(a, l, c, state, n, m, readings);
+    let next = updated(n, m, p, a, l, c, k, low, high, state, readings);
     Updated {
         answer,
         state: next,
@@ -96,8 +96,8 @@ pub fn command<'a, 'b>(
     Commanded { answer, values }
 }
 
-// The commands of the state after one period with these readings: what a box that decides issues.
-pub fn issue<'a, 'b>(
+// The state after one period with these readings, of settings that are known to stand: they are not looked at.
+pub fn updated<'a, 'b>(
     n: usize,
     m: usize,
     p: usize,
@@ -109,18 +109,30 @@ pub fn issue<'a, 'b>(
     high: &'a [i32; 4],
     state: &'b [i32; 6],
     readings: Readings,
-) -> Commanded
-    ensures answer { λ r. ⌜ number (r .answer) ≡ refusal (settingsOf n m p (now (a .entry)) (now (l .entry)) (now (c .entry)) (now (k .entry)) (now (low .entry)) (now (high .entry))) ⌝ }
-    ensures values { λ r. ⌜ r .values ≡ issued (settingsOf n m p (now (a .entry)) (now (l .entry)) (now (c .entry)) (now (k .entry)) (now (low .entry)) (now (high .entry))) (now (state .entry)) readings ⌝ }
+) -> [i32; 6]
+    requires { ⌜ refusal (settingsOf n m p (now a) (now l) (now c) (now k) (now low) (now high)) ≡ 0 ⌝ }
+    ensures { λ r. ⌜ r ≡ updated (settingsOf n m p (now (a .entry)) (now (l .entry)) (now (c .entry)) (now (k .entry)) (now (low .entry)) (now (high .entry))) (now (state .entry)) readings ⌝ }
 {
-    let answer = check(n, m, p, a, l, c, k, low, high);
-    if number_of(answer) != 0 {
-        return Commanded {
-            answer,
-            values: [0; 4],
-        };
-    }
-    let next = updated_state(a, l, c, state, n, m, readings);
-    let values = command_values(k, low, high, &next, n, p);
-    Commanded { answer, values }
+    updated_state(a, l, c, state, n, m, readings)
+}
+
+// The commands of the state after one period with these readings, what a box that decides issues, of settings that are known to stand.
+pub fn issued<'a, 'b>(
+    n: usize,
+    m: usize,
+    p: usize,
+    a: &'a [i32; 36],
+    l: &'a [i32; 24],
+    c: &'a [i32; 24],
+    k: &'a [i32; 24],
+    low: &'a [i32; 4],
+    high: &'a [i32; 4],
+    state: &'b [i32; 6],
+    readings: Readings,
+) -> [i32; 4]
+    requires { ⌜ refusal (settingsOf n m p (now a) (now l) (now c) (now k) (now low) (now high)) ≡ 0 ⌝ }
+    ensures { λ r. ⌜ r ≡ issued (settingsOf n m p (now (a .entry)) (now (l .entry)) (now (c .entry)) (now (k .entry)) (now (low .entry)) (now (high .entry))) (now (state .entry)) readings ⌝ }
+{
+    let next = updated(n, m, p, a, l, c, k, low, high, state, readings);
+    command_values(k, low, high, &next, n, p)
 }

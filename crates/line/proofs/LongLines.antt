@@ -15,18 +15,20 @@ use Rattle.lists.proofs.Choice.{pick-holds}
 use Rattle.lists.proofs.Below.{all-at}
 use Rattle.text.specs.declared.numbers.Number.{Number}
 use Rattle.text.specs.declared.numbers.Number.the-variants.{Whole, Malformed}
+use Rattle.text.specs.declared.numbers.Magnitude.{Magnitude}
+use Rattle.text.specs.declared.numbers.Magnitude.the-variants.{Digits, Other}
 use Rattle.line.specs.declared.events.Event.{Event}
 use Rattle.line.specs.declared.events.Event.the-variants.{Bad}
 use Rattle.line.specs.declared.events.Called.{Called}
-use Rattle.text.specs.Numbers.{numberOf, counted, isWhole}
+use Rattle.text.specs.Numbers.{magnitude, numberOf, isSize, counted, isWhole}
 use Rattle.transmitters.specs.declared.Reading.{Reading}
 use Rattle.line.specs.Fields.{oneMore, spaces, oneLess, afterSpaces, upToSpace, field}
 use Rattle.line.specs.Singles.{isSingle, singleIn}
-use Rattle.line.specs.Events.{letterOf, boxOf, readingIn, isGiven, isReading, allReadings, tickCalled, giveUpCalled, deliveryCalled, calledFor, called}
+use Rattle.line.specs.Events.{letterOf, boxOf, readingIn, isGiven, isReading, allReadings, tickCalled, giveUpCalled, deliveryCalled, storeCalled, returnCalled, powerCalled, calledFor, called}
 use Rattle.line.proofs.FieldLaws.{after-found}
 use Rattle.line.proofs.SingleLaws.{single-length}
-use Rattle.text.proofs.PrintingLengths.{signed-length}
-use Rattle.text.proofs.RoundTrip.{printed-reads}
+use Rattle.text.proofs.PrintingLengths.{decimal-length, signed-length}
+use Rattle.text.proofs.RoundTrip.{magnitude-back, printed-reads}
 
 -- ---- the fields of a line, one byte after the other
 
@@ -93,6 +95,11 @@ unfolding counted isWhole
 counted-length word (Whole z) e w = number-length word (Whole z) e refl
 counted-length word Malformed e w = absurd (omega arith)
 
+size-length : (word : List ℕ) (k : Magnitude) → magnitude word ≡ k → isSize k ≡ true → length word ≤ 11
+unfolding isSize
+size-length word (Digits n) e w = omega (arith, ap length (magnitude-back word n e), decimal-length n)
+size-length word Other e w = never w
+
 letter-length : (word : List ℕ) → 0 < letterOf word → length word ≤ 11
 unfolding letterOf pick
 letter-length word h = by (eqb (length word) 1) refl h
@@ -130,7 +137,7 @@ box-length boxes word h = by (leb (counted (numberOf word)) boxes) refl h
     by true e h = counted-length word (numberOf word) refl (omega (arith, rw e at h))
     by false e h = absurd (h (rw e))
 
--- ---- the three kinds of lines
+-- ---- the five kinds of lines
 
 module _ (ofRig : Bool) (m : ℕ) (line : List ℕ) (box : length (field 1 line) ≤ 11) where
   -- where there is an event, the line is short
@@ -154,8 +161,9 @@ module _ (ofRig : Bool) (m : ℕ) (line : List ℕ) (box : length (field 1 line)
           let z : i + 2 ≡ suc (suc i) = omega arith in
           rw z at (reading-length ofRig (field (i + 2) line) (all-at (λ i. isReading ofRig (field (i + 2) line)) m i all (omega arith)))
 
-  give-up-length : length (field 0 line) ≤ 11 → eqb (spaces line) 1 ≡ true → length line ≤ 12 * m + 35
-  give-up-length first e =
+  -- the letter and the box, as in `G r` and `S r`
+  one-space : length (field 0 line) ≤ 11 → eqb (spaces line) 1 ≡ true → length line ≤ 12 * m + 35
+  one-space first e =
       let n = eqb-true (spaces line) 1 e in
       let h = narrow line 0 (omega arith) (λ j l. at j (omega arith)) in
       omega arith
@@ -164,21 +172,41 @@ module _ (ofRig : Bool) (m : ℕ) (line : List ℕ) (box : length (field 1 line)
       at zero l = box
       at (suc i) l = absurd (omega arith)
 
+  -- the letter, the box and a number, as in `D r f` and `R r k`
+  two-spaces : length (field 0 line) ≤ 11 → eqb (spaces line) 2 ≡ true → length (field 2 line) ≤ 11 → length line ≤ 12 * m + 35
+  two-spaces first e f =
+      let n = eqb-true (spaces line) 2 e in
+      let h = narrow line 0 (omega arith) (λ j l. at j (omega arith)) in
+      omega arith
+    where
+      at : (j : ℕ) → j < 2 → length (field (suc j) line) ≤ 11
+      at zero l = box
+      at (suc zero) l = f
+      at (suc (suc i)) l = absurd (omega arith)
+
   delivery-length : length (field 0 line) ≤ 11 → (eqb (spaces line) 2 && ltb 0 (counted (numberOf (field 2 line)))) ≡ true → length line ≤ 12 * m + 35
   delivery-length first e =
       let q = both (eqb (spaces line) 2) _ e in
-      let n = eqb-true (spaces line) 2 (q .0) in
-      let f = counted-length (field 2 line) (numberOf (field 2 line)) refl (ltb-true 0 _ (q .1)) in
-      let h = narrow line 0 (omega arith) (λ j l. at j (omega arith) f) in
-      omega arith
-    where
-      at : (j : ℕ) → j < 2 → length (field 2 line) ≤ 11 → length (field (suc j) line) ≤ 11
-      at zero l f = box
-      at (suc zero) l f = f
-      at (suc (suc i)) l f = absurd (omega arith)
+      two-spaces first (q .0) (counted-length (field 2 line) (numberOf (field 2 line)) refl (ltb-true 0 _ (q .1)))
+
+  return-length : length (field 0 line) ≤ 11 → (eqb (spaces line) 2 && isSize (magnitude (field 2 line))) ≡ true → length line ≤ 12 * m + 35
+  return-length first e =
+      let q = both (eqb (spaces line) 2) _ e in
+      two-spaces first (q .0) (size-length (field 2 line) (magnitude (field 2 line)) refl (q .1))
 
   abbrev ShortCall : Called → Type 0
   ShortCall c = Short (c .event)
+
+  short-power : (at : ℕ) → Short (powerCalled at (letterOf (field 0 line)) (spaces line) line .event)
+  unfolding powerCalled storeCalled returnCalled
+  short-power at =
+      let letter = letterOf (field 0 line) in
+      pick-holds ShortCall (eqb letter 83) _ _
+      (λ s. pick-holds Short (eqb (spaces line) 1) _ _ (λ e _. one-space (begins 83 (omega arith) s) e) (λ _ h. absurd (h refl)))
+      (λ _. pick-holds ShortCall (eqb letter 82) _ _
+      (λ r. pick-holds Short (eqb (spaces line) 2 && isSize (magnitude (field 2 line))) _ _ (λ e _. return-length (begins 82 (omega arith) r) e) (λ _ h. absurd
+      (h refl)))
+      (λ _ h. absurd (h refl)))
 
   short-called : (at : ℕ) → Short (calledFor ofRig at m (letterOf (field 0 line)) (spaces line) line .event)
   unfolding calledFor tickCalled giveUpCalled deliveryCalled
@@ -189,10 +217,10 @@ module _ (ofRig : Bool) (m : ℕ) (line : List ℕ) (box : length (field 1 line)
       (λ t. pick-holds ShortCall (eqb (spaces line) (m + 1) && allReadings ofRig m line) _ _ (λ e _. tick-length (begins 84 (omega arith) t) e) (λ _ h. absurd
       (h refl)))
       (λ _. pick-holds ShortCall (eqb letter 71) _ _
-      (λ g. pick-holds Short (eqb (spaces line) 1) _ _ (λ e _. give-up-length (begins 71 (omega arith) g) e) (λ _ h. absurd (h refl)))
+      (λ g. pick-holds Short (eqb (spaces line) 1) _ _ (λ e _. one-space (begins 71 (omega arith) g) e) (λ _ h. absurd (h refl)))
       (λ _. pick-holds ShortCall (eqb letter 68) _ _
       (λ d. pick-holds Short (eqb (spaces line) 2 && ltb 0 f) _ _ (λ e _. delivery-length (begins 68 (omega arith) d) e) (λ _ h. absurd (h refl)))
-      (λ _ h. absurd (h refl))))
+      (λ _. pick-holds ShortCall ofRig _ _ (λ _. short-power at) (λ _ h. absurd (h refl)))))
 
 -- a line with more bytes is no line of the format
 pub short-lines : (ofRig : Bool) (boxes m : ℕ) (line : List ℕ) → (called ofRig boxes m line .event ≡ Bad → ⊥) → length line ≤ 12 * m + 35

@@ -1,5 +1,7 @@
 -- What a line calls for: "`T r y` (tick, `-` for absent), `G r` (give up), `D r f` (deliver to r the frame that line f sent)". The letters T,
--- G and D are the bytes 84, 71 and 68, a minus is 45. `ofRig` tells whether the line is one of `rig`, which takes singles, or of `bench`.
+-- G and D are the bytes 84, 71 and 68, a minus is 45. `ofRig` tells whether the line is one of `rig`, which takes singles, `S r` and `R r k` too, or of
+-- `bench`: "`S r`: the record of box r's replica is stored. `R r k`: box r comes back from the record that it stored last, with k missed periods (k decimal,
+-- 0 to 4294967295)". The letters S and R are the bytes 83 and 82.
 use Prim.Native.Nat.{ℕ, _+_}
 use mathlib.Core.Bool.{Bool, true, false, _&&_, _||_}
 use mathlib.Core.List.{List, map}
@@ -8,11 +10,12 @@ use lib.Dec.{eqb, leb, ltb}
 use Rattle.lists.specs.Choice.{pick}
 use Rattle.lists.specs.Below.{allBelow}
 use Rattle.lists.specs.Places.{filled}
-use Rattle.text.specs.Numbers.{numberOf, counted, valueIn, isWhole}
+use Rattle.text.specs.declared.numbers.Magnitude.{Magnitude}
+use Rattle.text.specs.Numbers.{magnitude, numberOf, sizeIn, isSize, counted, valueIn, isWhole}
 use Rattle.transmitters.specs.declared.Reading.{Reading}
 use Rattle.transmitters.specs.declared.Reading.the-variants.{Count, Newtons, Missing}
 use Rattle.line.specs.declared.events.Event.{Event}
-use Rattle.line.specs.declared.events.Event.the-variants.{Tick, GiveUp, Deliver, Bad}
+use Rattle.line.specs.declared.events.Event.the-variants.{Tick, GiveUp, Deliver, Store, Return, Bad}
 use Rattle.line.specs.declared.events.Place.{Place}
 use Rattle.line.specs.declared.events.Called.{Called}
 use Rattle.line.specs.declared.events.Row.{Row}
@@ -86,12 +89,26 @@ giveUpCalled at count = calls (pick (eqb count 1) (GiveUp at) Bad)
 unfoldable pub deliveryCalled : (at count f : ℕ) → Called
 deliveryCalled at count f = calls (pick (eqb count 2 && ltb 0 f) (Deliver at f) Bad)
 
+-- `S r`
+unfoldable pub storeCalled : (at count : ℕ) → Called
+storeCalled at count = calls (pick (eqb count 1) (Store at) Bad)
+
+-- `R r k`
+unfoldable pub returnCalled : (at count : ℕ) → Magnitude → Called
+returnCalled at count k = calls (pick (eqb count 2 && isSize k) (Return at (sizeIn k)) Bad)
+
+-- what only a line of `rig` calls for
+unfoldable pub powerCalled : (at letter count : ℕ) → List ℕ → Called
+powerCalled at letter count line =
+    pick (eqb letter 83) (storeCalled at count)
+    (pick (eqb letter 82) (returnCalled at count (magnitude (field 2 line))) (calls Bad))
+
 -- what a line with this letter and so many spaces calls for, at a box that is there
 unfoldable pub calledFor : (ofRig : Bool) (at m letter count : ℕ) → List ℕ → Called
 calledFor ofRig at m letter count line =
     pick (eqb letter 84) (tickCalled ofRig at m count line)
     (pick (eqb letter 71) (giveUpCalled at count)
-    (pick (eqb letter 68) (deliveryCalled at count (counted (numberOf (field 2 line)))) (calls Bad)))
+    (pick (eqb letter 68) (deliveryCalled at count (counted (numberOf (field 2 line)))) (pick ofRig (powerCalled at letter count line) (calls Bad))))
 
 -- what a line calls for, in a group of so many boxes with m readings
 unfoldable pub called : (ofRig : Bool) (boxes m : ℕ) → List ℕ → Called

@@ -4,21 +4,28 @@ ghost use mathlib.Core.Bool.{_&&_, _||_};
 ghost use Prim.Native.Nat.{_+_, _≤_};
 ghost use lib.Dec.{eqb};
 ghost use lib.ListN.{set};
-ghost use Rattle.line.specs.Events.{letterOf, boxOf, readingIn, isGiven, allReadings, place, readingsOf, rowOf, readWith, missingRow, calls as Events·calls, tickCalled, giveUpCalled, deliveryCalled, calledFor, called};
+ghost use Rattle.line.specs.Events.{letterOf, boxOf, readingIn, isGiven, allReadings, place, readingsOf, rowOf, readWith, missingRow, calls as Events·calls, tickCalled, giveUpCalled, deliveryCalled, storeCalled, returnCalled, powerCalled, calledFor, called};
 use crate::fields::count_spaces;
 use crate::fields::field;
 use crate::singles::single_in;
+use text::numbers::Magnitude;
 use text::numbers::count_of;
+use text::numbers::is_size;
 use text::numbers::is_whole;
 use text::numbers::number_in;
+use text::numbers::read_magnitude;
+use text::numbers::size_of;
 use text::numbers::value_of;
 use transmitters::Reading;
 
-// A tick at a box; a view given up by a box; the frame that a line sent, delivered to a box.
+// A tick at a box; a view given up by a box; the frame that a line sent, delivered to a box; the record of a box stored; a box that comes back, with so
+// many missed periods.
 pub enum Event {
     Tick(u8),
     GiveUp(u8),
     Deliver(u8, u32),
+    Store(u8),
+    Return(u8, u32),
     Bad,
 }
 
@@ -196,6 +203,40 @@ fn delivery(at: u8, count: usize, f: u32) -> Called
     calls(Event::Deliver(at, f))
 }
 
+fn store(at: u8, count: usize) -> Called
+    ensures { λ r. ⌜ r ≡ storeCalled at count ⌝ }
+{
+    if count == 1 {
+        return calls(Event::Store(at));
+    }
+    calls(Event::Bad)
+}
+
+fn come_back(at: u8, count: usize, missed: Magnitude) -> Called
+    ensures { λ r. ⌜ r ≡ returnCalled at count missed ⌝ }
+{
+    if count != 2 {
+        return calls(Event::Bad);
+    }
+    if !is_size(missed) {
+        return calls(Event::Bad);
+    }
+    calls(Event::Return(at, size_of(missed)))
+}
+
+// What only a line of rig calls for.
+fn power(at: u8, letter: u8, count: usize, line: &[u8]) -> Called
+    ensures { λ r. ⌜ r ≡ powerCalled at letter count (now (line .entry)) ⌝ }
+{
+    if letter == 83 {
+        return store(at, count);
+    }
+    if letter == 82 {
+        return come_back(at, count, read_magnitude(field(line, 2)));
+    }
+    calls(Event::Bad)
+}
+
 // What a line with this letter and so many spaces calls for.
 fn called_for(of_rig: bool, at: u8, m: u8, letter: u8, count: usize, line: &[u8]) -> Called
     ensures { λ r. ⌜ r ≡ calledFor «of_rig» at m letter count (now (line .entry)) ⌝ }
@@ -209,10 +250,13 @@ fn called_for(of_rig: bool, at: u8, m: u8, letter: u8, count: usize, line: &[u8]
     if letter == 68 {
         return delivery(at, count, count_of(number_in(field(line, 2))));
     }
+    if of_rig {
+        return power(at, letter, count, line);
+    }
     calls(Event::Bad)
 }
 
-// What a line calls for, in a group of so many boxes with m readings. A line of rig's may have singles for readings.
+// What a line calls for, in a group of so many boxes with m readings. A line of rig's may have singles for readings, and store a record or return a box.
 pub fn call_in(of_rig: bool, boxes: u8, m: u8, line: &[u8]) -> Called
     ensures { λ r. ⌜ r ≡ called «of_rig» boxes m (now (line .entry)) ⌝ }
 {

@@ -19,7 +19,7 @@ use Rattle.line.specs.Fields.{spaces, field}
 use Rattle.text.specs.Numbers.{numberOf, valueIn, isWhole}
 use Rattle.text.specs.Lines.{upTo, after}
 use Rattle.printed.specs.Values.{hasComma, isList, howMany, valueAt}
-use Rattle.printed.specs.Lines.{isNone, isUpTo, isRefusal, unstarred, headOk, countersOk, tailOk, isStep, commandsIn}
+use Rattle.printed.specs.Lines.{isNone, isUpTo, isRefusalNumber, isRefusal, unstarred, headOk, countersOk, tailOk, isStep, commandsIn}
 
 -- ---- numbers with commas between them
 
@@ -115,7 +115,7 @@ unfolding isRefusal
 refusal-other bytes h = rw (ne-eqb _ _ h)
 
 -- behind an `r` its number is left to be tested
-pub refusal-number : (bytes : List ℕ) → getD bytes 0 0 ≡ 114 → isRefusal bytes ≡ isUpTo 12 (drop 1 bytes)
+pub refusal-number : (bytes : List ℕ) → getD bytes 0 0 ≡ 114 → isRefusal bytes ≡ isRefusalNumber (drop 1 bytes)
 unfolding isRefusal
 refusal-number bytes h = rw (eq-eqb _ _ h)
 

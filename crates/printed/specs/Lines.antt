@@ -42,9 +42,13 @@ isOk bytes = same bytes (111 ∷ 107 ∷ [])
 unfoldable pub isIgnored : List ℕ → Bool
 isIgnored bytes = same bytes (105 ∷ 103 ∷ 110 ∷ 111 ∷ 114 ∷ 101 ∷ 100 ∷ [])
 
--- "`r` and the number, as `r9`": a replica refuses by 1 to 12
+-- the number of a refusal: a replica refuses by 1 to 12, and a box that comes back by 16
+unfoldable pub isRefusalNumber : List ℕ → Bool
+isRefusalNumber bytes = isUpTo 12 bytes || same bytes (49 ∷ 54 ∷ [])
+
+-- "`r` and the number, as `r9`"
 unfoldable pub isRefusal : List ℕ → Bool
-isRefusal bytes = eqb (getD bytes 0 0) 114 && isUpTo 12 (drop 1 bytes)
+isRefusal bytes = eqb (getD bytes 0 0) 114 && isRefusalNumber (drop 1 bytes)
 
 -- `bad`
 unfoldable pub isBad : List ℕ → Bool

@@ -5,7 +5,7 @@ ghost use Prim.Native.Nat.{_≤_};
 ghost use lib.Dec.{eqb};
 ghost use lib.IntN.{pos};
 ghost use lib.ListN.{take};
-ghost use Rattle.printed.specs.Lines.{isCounter, isUpTo, isNone, isOk, isIgnored, isRefusal, isBad, isHeader, unstarred as Lines·unstarred, headOk, countersOk, tailOk, isStep, isOther, stepLine, noStep, printedAs};
+ghost use Rattle.printed.specs.Lines.{isCounter, isUpTo, isNone, isOk, isIgnored, isRefusalNumber, isRefusal, isBad, isHeader, unstarred as Lines·unstarred, headOk, countersOk, tailOk, isStep, isOther, stepLine, noStep, printedAs};
 ghost use Rattle.line.specs.Fields as Fields;
 ghost use Rattle.lists.specs.Choice.{pick};
 ghost use Rattle.lists.specs.Places.{filled};
@@ -70,6 +70,16 @@ fn is_ignored(bytes: &[u8]) -> bool
     same(bytes, b"ignored")
 }
 
+// The number of a refusal.
+fn is_refusal_number(bytes: &[u8]) -> bool
+    ensures { λ r. ⌜ r ≡ isRefusalNumber (now (bytes .entry)) ⌝ }
+{
+    if is_up_to(12, bytes) {
+        return true;
+    }
+    same(bytes, b"16")
+}
+
 // `r` and a number.
 fn is_refusal(bytes: &[u8]) -> bool
     ensures { λ r. ⌜ r ≡ isRefusal (now (bytes .entry)) ⌝ }
@@ -80,7 +90,7 @@ fn is_refusal(bytes: &[u8]) -> bool
     if bytes[0] != 114 {
         return false;
     }
-    is_up_to(12, &bytes[1..])
+    is_refusal_number(&bytes[1..])
 }
 
 fn is_bad(bytes: &[u8]) -> bool

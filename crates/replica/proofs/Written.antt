@@ -1,17 +1,13 @@
 -- What the writers write where nothing is refused: a frame whose estimate is as frames carry it, and a command. Assumes nothing.
-use mathlib.Core.Path.{_≡_, refl, ap}
+use mathlib.Core.Path.{_≡_, refl}
 use mathlib.Core.Bool.{Bool, true, false, _&&_, false≢true}
 use mathlib.Core.List.{List}
-use mathlib.Core.Option.{none, some}
 use Prim.Native.Nat.{ℕ, _≤_}
 use lib.ListN.{length}
 use lib.IntN.{ℤ}
 use lib.Dec.{leb}
 use borrow.Author.Tests.{leb-true}
-use Rattle.lists.specs.Choice.{pick}
 use Rattle.readings.proofs.Normalised.{normalised-twice}
-use Rattle.law.specs.declared.Settings as Law
-use Rattle.law.proofs.Lent.{lent, issued-lent}
 use Rattle.frame.specs.declared.Frame.{Frame}
 use Rattle.frame.specs.Sizes.{sizesOk, commandsOk}
 use Rattle.frame.specs.Kinds.{anyOf, kindOk}
@@ -23,14 +19,7 @@ use Rattle.frame.proofs.Refusals.{write-done, frame-written, command-done, comm
 use Rattle.frame.proofs.FrameLaws.{normalised-well-formed}
 use Rattle.scram.specs.declared.Kind.{Kind}
 use Rattle.scram.specs.declared.Kind.the-variants as Kind
-use Rattle.replica.specs.declared.Held.{Held}
 use Rattle.replica.specs.Frames.{kindNumber, asCarried}
-use Rattle.replica.specs.Rules.{commandOf}
-
--- the command that is issued is the same where the law's tables are lent
-pub command-lent : (law : Law.Settings) (issues : Bool) (h : Held) → commandOf (lent law) issues h ≡ commandOf law issues h
-command-lent law issues h =
-    ap (λ (v : List ℤ). pick issues (some (record { period = h .period; values = v })) none) (issued-lent law (h .estimate .state) (h .estimate .readings))
 
 pub command-is : (p period : ℕ) (values : List ℤ) (area : List ℕ) → commandsOk p ≡ true → longestCommand ≤ length area
     → commandWritten p period values area ≡ commandBytes p period values

@@ -21,13 +21,13 @@ use Rattle.law.specs.declared.Settings as Law
 use Rattle.bytes.specs.Areas.{over}
 use Rattle.replica.specs.declared.Settings.{Settings}
 use Rattle.replica.specs.declared.Held.{Held}
-use Rattle.replica.specs.declared.Replica.{Replica}
 use Rattle.replica.specs.declared.Member.{Member}
 use Rattle.replica.specs.declared.Moved.{Moved}
+use Rattle.replica.specs.declared.Given.{Given}
 use Rattle.replica.specs.declared.Stepped.{Stepped}
-use Rattle.replica.specs.Settings.{lawOf, groupOf}
+use Rattle.replica.specs.Settings.{lawOf}
 use Rattle.replica.specs.Held.{estimateIn, heldOf}
-use Rattle.replica.specs.Frames.{sentBytes}
+use Rattle.replica.specs.Frames.{sentBytes, issuedBytes}
 use Rattle.replica.specs.Calls.{Outcomes}
 
 -- ---- what a rule gives
@@ -44,13 +44,29 @@ pub record Says (law : Law.Settings) (member : Member) (o : Outcomes) (r : Moved
   pub frame-bytes : frame′ ≡ over (sentBytes (member .n) (member .m) (o .sent)) frame
   pub command : commandOf law (r .issues) (r .held) ≡ o .command
 
--- the step of a rule, beside the settings, which stay
-abbrev pub steppedBy : Settings → Moved → ℕ → Stepped
-steppedBy s moved command = record {
-  answer = moved .answer;
-  replica = record { settings = s; held = moved .held };
-  frame = moved .frame;
-  command = command;
+-- what a rule gives, with the length of the command written
+abbrev pub givenBy : Moved → ℕ → Given
+givenBy moved command = record { answer = moved .answer; held = moved .held; frame = moved .frame; command = command }
+
+-- ---- what a step gives beside its settings, which stand
+
+-- at the sizes n, m and p it does what a step of the protocol does: its answer, what is held, the length written to each area, and each area to the
+-- last byte, the frame area from frame to frame′ and the command area from command to command′
+pub record Does (n m p : ℕ) (o : Outcomes) (r : Given) (frame frame′ command command′ : List ℕ) : Type 0 where
+  pub answer : answered (r .answer) ≡ o .answer
+  pub held : r .held ≡ heldOf (o .held)
+  pub frame-length : r .frame ≡ length (sentBytes n m (o .sent))
+  pub command-length : r .command ≡ length (issuedBytes p (o .command))
+  pub frame-bytes : frame′ ≡ over (sentBytes n m (o .sent)) frame
+  pub command-bytes : command′ ≡ over (issuedBytes p (o .command)) command
+
+-- the step, with the settings
+abbrev pub steppedBy : Settings → Given → Stepped
+steppedBy s given = record {
+  answer = given .answer;
+  replica = record { settings = s; held = given .held };
+  frame = given .frame;
+  command = given .command;
 }
 
 -- ---- refusals, and steps that change nothing
@@ -61,8 +77,8 @@ tickRefusal h m y =
     pick (Events.lastPeriod (h .period)) 6 (pick (markBeyond m y) 7 (pick (h .«view_change» && Events.lastView (h .view)) 12 0))
 
 -- a refused step
-abbrev pub refusedStep : Replica → ℕ → Stepped
-refusedStep r number = record { answer = Refused number; replica = r; frame = 0; command = 0 }
+abbrev pub refusedStep : Held → ℕ → Given
+refusedStep h number = record { answer = Refused number; held = h; frame = 0; command = 0 }
 
 -- a refusal by a rule
 abbrev pub refusedRule : Held → ℕ → Moved

@@ -1,29 +1,23 @@
 // One replica of a group, as a value that takes events: a tick with readings, a frame that arrives, a view that is given up.
 mod arrivals;
+mod checked;
+pub mod fit;
 mod moves;
 mod output;
-mod refusals;
+pub mod refusals;
 mod rules;
 
 ghost use mathlib.Core.Path.{_≡_};
 ghost use lib.ListN.{length};
 ghost use Rattle.scram.specs.Answers.{answered};
 ghost use Rattle.transmitters.specs.Conversion.{convertedRow};
-ghost use Rattle.replica.specs.Calls.{tickOutcome, giveUpOutcome, arriveOutcome, Gives, madeAnswer, made};
+ghost use Rattle.replica.specs.Calls.{tickOutcome, giveUpOutcome, arriveOutcome, Gives, madeAnswer, made, freshOf};
+ghost use Rattle.replica.specs.Settings.{blankSettings};
 ghost use Rattle.replica.specs.Rules.{steppedBy};
-use arrivals::arrive_bytes;
 use estimate::Estimate;
 use moves::blank_settings;
 use moves::fresh;
-use moves::ticked;
-use output::issue;
-use readings::Readings;
-use refusals::refused;
 use refusals::settings_refusal;
-use refusals::step_refusal;
-use refusals::tick_refusal;
-use rules::after_tick;
-use rules::give_up_view;
 use scram::Answer;
 use transmitters::Reading;
 
@@ -69,6 +63,14 @@ pub struct Stepped {
     pub command: usize,
 }
 
+// What a step gives beside the settings, which stay: its answer, what is held then, and the lengths written to the two lent areas, 0 where nothing was.
+pub struct Given {
+    pub answer: Answer,
+    pub held: Held,
+    pub frame: usize,
+    pub command: usize,
+}
+
 // What making gives: the fresh replica, or a blank one where the settings are refused.
 pub struct Made {
     pub answer: Answer,
@@ -100,7 +102,7 @@ impl Replica {
         let law = settings.law;
         let number = settings_refusal(settings.boxes, settings.own, law::check(law));
         if number != 0 {
-            let replica = fresh(blank_settings());
+            let replica = blank();
             return Made {
                 answer: Answer::Refused(number),
                 replica,
@@ -119,22 +121,11 @@ impl Replica {
             r (now (frame .entry)) (now (frame .exit)) (now (command .entry)) (now (command .exit)) ⌝ }
     {
         let converted = transmitters::convert_row(readings);
-        self.tick_converted(converted, frame, command)
-    }
-
-    // A tick with converted readings. The update's own look at the settings is the step's.
-    fn tick_converted(self, readings: Readings, frame: &mut [u8], command: &mut [u8]) -> Stepped
-        ensures { λ r. ⌜ Gives (self .settings) (tickOutcome self readings (length (now (frame .entry))) (length (now (command .entry))))
-            r (now (frame .entry)) (now (frame .exit)) (now (command .entry)) (now (command .exit)) ⌝ }
-    {
-        let boxes = self.settings.boxes;
-        let own = self.settings.own;
-        let n = self.settings.law.n;
-        let m = self.settings.law.m;
-        let estimate = self.held.estimate;
-        let updated = law::tables::update(
-            n,
-            m,
+        let given = checked::tick(
+            self.settings.boxes,
+            self.settings.own,
+            self.settings.law.n,
+            self.settings.law.m,
             self.settings.law.p,
             &self.settings.law.a,
             &self.settings.law.l,
@@ -142,22 +133,12 @@ impl Replica {
             &self.settings.law.k,
             &self.settings.law.low,
             &self.settings.law.high,
-            &estimate.state,
-            estimate.readings,
+            self.held,
+            converted,
+            frame,
+            command.len(),
         );
-        let answer = updated.answer;
-        let number = step_refusal(boxes, own, answer, frame.len(), command.len());
-        if number != 0 {
-            return refused(self, number);
-        }
-        let number = tick_refusal(self.held, m, readings);
-        if number != 0 {
-            return refused(self, number);
-        }
-        let state = updated.state;
-        let next = ticked(self.held, m, state, readings);
-        let moved = after_tick(Member { boxes, own, n, m }, next, frame);
-        step_of(self, moved, 0)
+        step_of(self, given)
     }
 
     // The view is given up.
@@ -165,13 +146,11 @@ impl Replica {
         ensures { λ r. ⌜ Gives (self .settings) (giveUpOutcome self (length (now (frame .entry))) (length (now (command .entry))))
             r (now (frame .entry)) (now (frame .exit)) (now (command .entry)) (now (command .exit)) ⌝ }
     {
-        let boxes = self.settings.boxes;
-        let own = self.settings.own;
-        let n = self.settings.law.n;
-        let m = self.settings.law.m;
-        let checked = law::tables::check(
-            n,
-            m,
+        let given = checked::give_up(
+            self.settings.boxes,
+            self.settings.own,
+            self.settings.law.n,
+            self.settings.law.m,
             self.settings.law.p,
             &self.settings.law.a,
             &self.settings.law.l,
@@ -179,13 +158,11 @@ impl Replica {
             &self.settings.law.k,
             &self.settings.law.low,
             &self.settings.law.high,
+            self.held,
+            frame,
+            command.len(),
         );
-        let number = step_refusal(boxes, own, checked, frame.len(), command.len());
-        if number != 0 {
-            return refused(self, number);
-        }
-        let moved = give_up_view(Member { boxes, own, n, m }, self.held, frame);
-        step_of(self, moved, 0)
+        step_of(self, given)
     }
 
     // Bytes that arrive as a frame.
@@ -193,57 +170,46 @@ impl Replica {
         ensures { λ r. ⌜ Gives (self .settings) (arriveOutcome self (now (bytes .entry)) (length (now (frame .entry))) (length (now (command .entry))))
             r (now (frame .entry)) (now (frame .exit)) (now (command .entry)) (now (command .exit)) ⌝ }
     {
-        let boxes = self.settings.boxes;
-        let own = self.settings.own;
-        let n = self.settings.law.n;
-        let m = self.settings.law.m;
-        let p = self.settings.law.p;
-        let checked = law::tables::check(
-            n,
-            m,
-            p,
+        let given = checked::arrive(
+            self.settings.boxes,
+            self.settings.own,
+            self.settings.law.n,
+            self.settings.law.m,
+            self.settings.law.p,
             &self.settings.law.a,
             &self.settings.law.l,
             &self.settings.law.c,
             &self.settings.law.k,
             &self.settings.law.low,
             &self.settings.law.high,
-        );
-        let number = step_refusal(boxes, own, checked, frame.len(), command.len());
-        if number != 0 {
-            return refused(self, number);
-        }
-        let moved = arrive_bytes(Member { boxes, own, n, m }, self.held, bytes, frame);
-        let issued = issue(
-            moved.issues,
-            moved.held,
-            n,
-            m,
-            p,
-            &self.settings.law.a,
-            &self.settings.law.l,
-            &self.settings.law.c,
-            &self.settings.law.k,
-            &self.settings.law.low,
-            &self.settings.law.high,
+            self.held,
+            bytes,
+            frame,
             command,
         );
-        step_of(self, moved, issued)
+        step_of(self, given)
     }
 }
 
-// The step that a rule makes of the replica handed in: its settings stay.
-fn step_of(replica: Replica, moved: Moved, command: usize) -> Stepped
-    ensures { λ r. ⌜ r ≡ steppedBy (replica .settings) moved command ⌝ }
+// A replica of no settings, which every step refuses by 1.
+pub fn blank() -> Replica
+    ensures { λ r. ⌜ r ≡ freshOf blankSettings ⌝ }
 {
-    let answer = moved.answer;
+    fresh(blank_settings())
+}
+
+// The step that this makes of the replica handed in: its settings stay.
+fn step_of(replica: Replica, given: Given) -> Stepped
+    ensures { λ r. ⌜ r ≡ steppedBy (replica .settings) given ⌝ }
+{
+    let answer = given.answer;
     let settings = replica.settings;
-    let held = moved.held;
+    let held = given.held;
     let next = Replica { settings, held };
     Stepped {
         answer,
         replica: next,
-        frame: moved.frame,
-        command,
+        frame: given.frame,
+        command: given.command,
     }
 }

@@ -3,9 +3,9 @@ ghost use mathlib.Core.Path.{_≡_};
 ghost use mathlib.Core.Bool.{true};
 ghost use Prim.Native.Nat.{_≤_};
 ghost use lib.ListN.{length};
-ghost use Rattle.law.specs.Settings.{settingsOf};
+ghost use Rattle.law.specs.Settings.{settingsOf, refusal};
 ghost use Rattle.bytes.specs.Areas.{over};
-ghost use Rattle.frame.specs.Sizes.{sizesOk, commandsOk};
+ghost use Rattle.frame.specs.Sizes.{sizesOk};
 ghost use Rattle.frame.specs.Kinds.{kindOk};
 ghost use Rattle.frame.specs.Format.{frameBytes};
 ghost use Rattle.frame.specs.Lengths.{longestFrame, longestCommand};
@@ -44,7 +44,7 @@ pub(crate) fn issue<'a>(
     high: &'a [i32; 4],
     area: &mut [u8],
 ) -> usize
-    requires { ⌜ (commandsOk p ≡ true) × (longestCommand ≤ length (now area)) ⌝ }
+    requires { ⌜ (refusal (settingsOf n m p (now a) (now l) (now c) (now k) (now low) (now high)) ≡ 0) × (longestCommand ≤ length (now area)) ⌝ }
     ensures { λ r. ⌜ (r ≡ length (issuedBytes p (commandOf (settingsOf n m p (now (a .entry)) (now (l .entry)) (now (c .entry)) (now (k .entry)) (now (low .entry)) (now (high .entry))) issues held)))
         × (now (area .exit) ≡ over (issuedBytes p (commandOf (settingsOf n m p (now (a .entry)) (now (l .entry)) (now (c .entry)) (now (k .entry)) (now (low .entry)) (now (high .entry))) issues held)) (now (area .entry))) ⌝ }
 {
@@ -52,7 +52,7 @@ pub(crate) fn issue<'a>(
         return 0;
     }
     let estimate = held.estimate;
-    let issued = law::tables::issue(
+    let values = law::tables::issued(
         n,
         m,
         p,
@@ -65,7 +65,6 @@ pub(crate) fn issue<'a>(
         &estimate.state,
         estimate.readings,
     );
-    let values = issued.values;
     let written = frame::write_command(p, held.period, values, area);
     written.length
 }

@@ -8,10 +8,9 @@ ghost use Rattle.scram.specs.Events as Events;
 ghost use Rattle.replica.specs.Settings.{badGroup, settingsRefusal};
 ghost use Rattle.replica.specs.Calls.{shortArea, stepRefusal};
 ghost use Rattle.replica.specs.Rules.{tickRefusal, refusedStep, refusedRule, ignoredRule};
+use crate::Given;
 use crate::Held;
 use crate::Moved;
-use crate::Replica;
-use crate::Stepped;
 use readings::Readings;
 use scram::Answer;
 
@@ -32,7 +31,7 @@ fn bad_group(n: u8, own: u8) -> bool
 }
 
 // The number of the refusal of settings, or 0: 1, then the law's own answer.
-pub(crate) fn settings_refusal(boxes: u8, own: u8, law: law::Answer) -> u8
+pub fn settings_refusal(boxes: u8, own: u8, law: law::Answer) -> u8
     ensures { λ r. ⌜ ((s : Law.Settings) → number law ≡ refusal s → r ≡ settingsRefusal (record { boxes = boxes; own = own; law = s })) ⌝ }
 {
     if bad_group(boxes, own) {
@@ -42,7 +41,7 @@ pub(crate) fn settings_refusal(boxes: u8, own: u8, law: law::Answer) -> u8
 }
 
 // 5: an area is shorter than the longest frame or command.
-fn short_area(frame: usize, command: usize) -> bool
+pub fn short_area(frame: usize, command: usize) -> bool
     ensures { λ r. ⌜ r ≡ shortArea frame command ⌝ }
 {
     if frame < frame::lengths::LONGEST_FRAME {
@@ -95,12 +94,12 @@ fn raises_last_view(held: Held) -> bool
 }
 
 // A refused step: nothing has changed.
-pub(crate) fn refused(replica: Replica, number: u8) -> Stepped
-    ensures { λ r. ⌜ r ≡ refusedStep replica number ⌝ }
+pub(crate) fn refused(held: Held, number: u8) -> Given
+    ensures { λ r. ⌜ r ≡ refusedStep held number ⌝ }
 {
-    Stepped {
+    Given {
         answer: Answer::Refused(number),
-        replica,
+        held,
         frame: 0,
         command: 0,
     }

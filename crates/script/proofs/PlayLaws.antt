@@ -1,6 +1,6 @@
 -- Laws of a line played: what a step gave decides what the line leaves. Assumes nothing.
 use mathlib.Core.Path.{_≡_, refl, ap, ap₂, _∙_, subst}
-use mathlib.Core.Bool.{true, false, _&&_}
+use mathlib.Core.Bool.{Bool, true, false, _&&_}
 use mathlib.Core.List.{List}
 use Prim.Native.Nat.{ℕ, _+_, _≤_}
 use native.Mathlib.Omega.{arith}
@@ -10,10 +10,7 @@ use borrow.Author.Tests.{leb-true, ltb-true}
 use Rattle.transmitters.specs.declared.Reading.{Reading}
 use Rattle.lists.specs.Choice.{pick}
 use Rattle.lists.proofs.Booleans.{both, never}
-use Rattle.scram.specs.declared.Answer.the-variants.{Ignored}
-use Rattle.scram.specs.Answers.{answered}
-use Rattle.scram.specs.Events.{ignoring}
-use Rattle.replica.specs.Held.{heldIn}
+use Rattle.scram.specs.Answers.{Answered, answered}
 use Rattle.frame.specs.Lengths.{longestCommand}
 use Rattle.replica.specs.declared.Settings.{Settings}
 use Rattle.replica.specs.declared.Replica.{Replica}
@@ -21,28 +18,27 @@ use Rattle.replica.specs.declared.Stepped.{Stepped}
 use Rattle.replica.specs.Frames.{sentBytes}
 use Rattle.replica.specs.Calls.{Outcomes, Gives}
 use Rattle.line.specs.declared.events.Event.{Event}
-use Rattle.line.specs.declared.events.Event.the-variants.{Tick, GiveUp, Deliver, Bad}
+use Rattle.line.specs.declared.events.Event.the-variants.{Tick, GiveUp, Deliver, Store, Return, Bad}
+use Rattle.script.specs.declared.play.Kept.{Kept}
 use Rattle.script.specs.declared.play.PlayedLine.{PlayedLine}
 use Rattle.text.specs.Printing.{Puts}
 use Rattle.text.proofs.PrintingLaws.{puts-same}
 use Rattle.line.specs.Frames.{wasSent, keptFrame}
 use Rattle.script.specs.Printing.{badLine, stepLine}
-use Rattle.script.specs.Play.{most, tableLength, lineRoom, boxIn, lineIn, playable, hasRoom, eventOutcome, afterStep, afterEvent, Leaves}
+use Rattle.script.specs.Play.{most, tableLength, lineRoom, boxIn, lineIn, playable, hasRoom, quietly, Quiet, settingsAfter, eventOutcome, keptAfter, afterStep, afterEvent, Leaves}
 use Rattle.bytes.proofs.Areas.{over-length, over-first}
 use Rattle.script.proofs.LineLengths.{bad-length}
 
 -- ---- the event at its box
 
--- a step that does nothing
-abbrev pub ignored : Replica → Stepped
-ignored r = record { answer = Ignored; replica = r; frame = 0; command = 0 }
-
-pub gives-ignored : (r : Replica) (frame command : List ℕ) → Gives (r .settings) (ignoring (heldIn (r .held))) (ignored r) frame frame command command
-gives-ignored r frame command = record {
-  answer = refl;
-  replica = refl;
-  frame-length = refl;
-  command-length = refl;
+-- a step that sends nothing and issues nothing
+pub gives-quietly : {gives : Answered} {next : Replica} {r : Stepped} (frame command : List ℕ) → Quiet gives next r
+    → Gives (next .settings) (quietly gives next) r frame frame command command
+gives-quietly frame command q = record {
+  answer = q .answer;
+  replica = q .replica;
+  frame-length = q .frame;
+  command-length = q .command;
   frame-bytes = refl;
   command-bytes = refl;
 }
@@ -57,18 +53,19 @@ module _ {s : Settings} {o : Outcomes} {r : Stepped} {frame frame′ command com
   first-bytes = ap₂ (λ (n : ℕ) (l : List ℕ). take n l) (g .frame-length) (g .frame-bytes) ∙ over-first (sentBytes (s .law .n) (s .law .m) (o .sent)) frame
 
 pub leaves-step : {s : Settings} {o : Outcomes} {r : Stepped} {frame frame′ command′ : List ℕ}
-    (at w who number : ℕ) (table table′ lengths text text′ : List ℕ) (end : ℕ)
+    (b : Kept) (event : Event) (at w number : ℕ) (table table′ lengths text text′ : List ℕ) (end : ℕ) {k : Kept}
     → Gives s o r frame frame′ (replicate longestCommand 0) command′
     → table′ ≡ keptFrame table number (take (r .frame) frame′)
-    → w ≡ who
+    → w ≡ boxIn event
     → Puts text at (stepLine number w (answered (r .answer)) (r .replica) (r .frame) (r .command) command′) end text′ × (length (stepLine number w (answered (r .answer)) (r .replica) (r .frame) (r .command) command′) ≤ lineRoom)
-    → Leaves (afterStep who number table lengths s o) at (record { replica = r .replica; end = end }) table′ (set lengths number (r .frame)) text text′
-leaves-step {s} {o} {r} {frame} {frame′} {command′} at w who number table table′ lengths text text′ end g kept e line =
+    → k ≡ keptAfter b event (r .replica)
+    → Leaves (afterStep b event number table lengths s o) at (record { kept = k; end = end }) table′ (set lengths number (r .frame)) text text′
+leaves-step {s} {o} {r} {frame} {frame′} {command′} b event at w number table table′ lengths text text′ end {k} g kept e line after =
     let same =
     ap (λ (k : ℕ). stepLine number k (answered (r .answer)) (r .replica) (r .frame) (r .command) command′) e
-    ∙ (λ i. stepLine number who (g .answer i) (g .replica i) (g .frame-length i) (g .command-length i) (g .command-bytes i)) in
+    ∙ (λ i. stepLine number (boxIn event) (g .answer i) (g .replica i) (g .frame-length i) (g .command-length i) (g .command-bytes i)) in
     record {
-      replica = g .replica;
+      kept = after ∙ ap (keptAfter b event) (g .replica);
       printed = puts-same same (line .0);
       short = subst (λ (l : List ℕ). length l ≤ lineRoom) same (line .1);
       table = kept ∙ ap (keptFrame table number) (first-bytes g);
@@ -98,27 +95,30 @@ room event number table lengths e =
     }
 
 -- a frame that is delivered is that of an earlier line
-pub earlier : (event : Event) (number : ℕ) (lengths : List ℕ) → playable event number lengths ≡ true → number ≤ most → lineIn event ≤ most
+pub earlier : (stored : Bool) (event : Event) (number : ℕ) (lengths : List ℕ) → playable stored event number lengths ≡ true → number ≤ most
+    → lineIn event ≤ most
 unfolding playable lineIn wasSent
-earlier (Tick at) number lengths e h = omega arith
-earlier (GiveUp at) number lengths e h = omega arith
-earlier (Deliver at f) number lengths e h =
+earlier stored (Tick at) number lengths e h = omega arith
+earlier stored (GiveUp at) number lengths e h = omega arith
+earlier stored (Store at) number lengths e h = omega arith
+earlier stored (Return at k) number lengths e h = omega arith
+earlier stored (Deliver at f) number lengths e h =
     let p = both (ltb 0 f) _ e in
     let q = both (ltb f number) _ (p .1) in
     omega (arith, ltb-true f number (q .0))
-earlier Bad number lengths e h = never e
+earlier stored Bad number lengths e h = never e
 
 -- ---- the line
 
-module _ (r : Replica) (event : Event) (y : List Reading) (at number : ℕ) (table lengths text text′ : List ℕ) (one : PlayedLine) where
-  pub leaves-bad : (hasRoom event number (length table) (length lengths) && playable event number lengths) ≡ false
-      → (one .replica ≡ r) × Puts text at (badLine number) (one .end) text′
-      → Leaves (afterEvent r event y number table lengths) at one table lengths text text′
+module _ (b : Kept) (event : Event) (y : List Reading) (at number : ℕ) (table lengths text text′ : List ℕ) (one : PlayedLine) where
+  pub leaves-bad : (hasRoom event number (length table) (length lengths) && playable (b .stored) event number lengths) ≡ false
+      → (one .kept ≡ b) × Puts text at (badLine number) (one .end) text′
+      → Leaves (afterEvent b event y number table lengths) at one table lengths text text′
   unfolding afterEvent pick
-  leaves-bad e p = rw e (record { replica = p .0; printed = p .1; short = bad-length number; table = refl; lengths = refl })
+  leaves-bad e p = rw e (record { kept = p .0; printed = p .1; short = bad-length number; table = refl; lengths = refl })
 
-  pub leaves-played : {table′ lengths′ : List ℕ} → (hasRoom event number (length table) (length lengths) && playable event number lengths) ≡ true
-      → Leaves (afterStep (boxIn event) number table lengths (r .settings) (eventOutcome r event y table lengths)) at one table′ lengths′ text text′
-      → Leaves (afterEvent r event y number table lengths) at one table′ lengths′ text text′
+  pub leaves-played : {table′ lengths′ : List ℕ} → (hasRoom event number (length table) (length lengths) && playable (b .stored) event number lengths) ≡ true
+      → Leaves (afterStep b event number table lengths (settingsAfter b event) (eventOutcome b event y table lengths)) at one table′ lengths′ text text′
+      → Leaves (afterEvent b event y number table lengths) at one table′ lengths′ text text′
   unfolding afterEvent pick
   leaves-played e p = rw e p

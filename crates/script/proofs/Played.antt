@@ -10,12 +10,12 @@ use lib.Seq.{drop-drop}
 use Rattle.line.specs.declared.events.Called.{Called}
 use Rattle.line.specs.Events.{readingsOf, called}
 use Rattle.transmitters.specs.declared.Reading.{Reading}
-use Rattle.replica.specs.declared.Replica.{Replica}
 use Rattle.text.proofs.PrintingLaws.{put-within}
+use Rattle.script.specs.declared.play.Kept.{Kept}
 use Rattle.script.specs.declared.play.PlayedLine.{PlayedLine}
 use Rattle.script.specs.Play.{most, tableLength, lineRoom, placeOf, afterEvent, Leaves}
 use Rattle.text.specs.Lines.{firstLine, afterLine, linesOf}
-use Rattle.script.specs.Script.{Left, left, replicaAt, afterCall, played, Prints}
+use Rattle.script.specs.Script.{Left, left, keptAt, afterCall, played, Prints}
 use Rattle.text.proofs.LineLaws.{lines-next}
 use Rattle.lists.proofs.Parts.{getD-any}
 use Rattle.script.proofs.ScriptLaws.{prints}
@@ -30,22 +30,22 @@ unfolding played
 played-none ofRig boxes m number l = refl
 
 -- what a line played leaves is what the line leaves
-module _ (held : List Replica) (table lengths table′ lengths′ output output′ : List ℕ) (number end place : ℕ) (c : Called) (before : Replica)
+module _ (held : List Kept) (table lengths table′ lengths′ output output′ : List ℕ) (number end place : ℕ) (c : Called) (before : Kept)
     (y : List Reading) (one : PlayedLine) where
-  after-one : place ≡ placeOf (c .event) → before ≡ replicaAt held place → y ≡ readingsOf (c .readings) → end + lineRoom ≤ length output
+  after-one : place ≡ placeOf (c .event) → before ≡ keptAt held place → y ≡ readingsOf (c .readings) → end + lineRoom ≤ length output
       → Leaves (afterEvent before (c .event) y number table lengths) end one table′ lengths′ output output′
-      → afterCall (left held table lengths (take end output)) number c ≡ left (set held place (one .replica)) table′ lengths′ (take (one .end) output′)
+      → afterCall (left held table lengths (take end output)) number c ≡ left (set held place (one .kept)) table′ lengths′ (take (one .end) output′)
   unfolding afterCall
   after-one p e q room l =
-      let at : before ≡ replicaAt held (placeOf (c .event)) = e ∙ ap (replicaAt held) p in
+      let at : before ≡ keptAt held (placeOf (c .event)) = e ∙ ap (keptAt held) p in
       let k = subst (λ a. Leaves a end one table′ lengths′ output output′) (λ i. afterEvent (at i) (c .event) (q i) number table lengths) l in
       let w = put-within (omega (arith, k .short)) (k .printed) in
-      let replicas = ap₂ (λ (i : ℕ) (r : Replica). set held i r) (sym p) (sym (k .replica)) in
-      λ i. record { replicas = replicas i; table = sym (k .table) i; lengths = sym (k .lengths) i; printed = sym (w .text) i }
+      let kept = ap₂ (λ (i : ℕ) (b : Kept). set held i b) (sym p) (sym (k .kept)) in
+      λ i. record { kept = kept i; table = sym (k .table) i; lengths = sym (k .lengths) i; printed = sym (w .text) i }
 
 -- the first `number` lines of a text were played, after the first `start` bytes of the output: what is left is at `at`, and what they printed
 -- ends at `end`
-pub record Sofar (ofRig : Bool) (boxes m start : ℕ) (text output₀ : List ℕ) (whole : Left) (output : List ℕ) (held : List Replica) (table lengths : List ℕ)
+pub record Sofar (ofRig : Bool) (boxes m start : ℕ) (text output₀ : List ℕ) (whole : Left) (output : List ℕ) (held : List Kept) (table lengths : List ℕ)
     (end at number : ℕ) : Type 0 where
   pub early : number ≤ most
   pub ten : length held ≡ 10
@@ -58,10 +58,10 @@ pub record Sofar (ofRig : Bool) (boxes m start : ℕ) (text output₀ : List ℕ
   pub rest : drop end output ≡ drop end output₀
 
 module _ (ofRig : Bool) (boxes m start : ℕ) (text output₀ : List ℕ) (enough : start + lineRoom * most ≤ length output₀) (whole : Left)
-    (output : List ℕ) (held : List Replica) (table lengths : List ℕ) (end at number : ℕ)
+    (output : List ℕ) (held : List Kept) (table lengths : List ℕ) (end at number : ℕ)
     (s : Sofar ofRig boxes m start text output₀ whole output held table lengths end at number) where
   -- one line more
-  pub one-more : {table′ lengths′ output′ : List ℕ} {one : PlayedLine} (stop place : ℕ) (c : Called) (before other : Replica) (y : List Reading)
+  pub one-more : {table′ lengths′ output′ : List ℕ} {one : PlayedLine} (stop place : ℕ) (c : Called) (before other : Kept) (y : List Reading)
       → number < most → at < length text
       → take (stop - at) (drop at text) ≡ firstLine (drop at text)
       → drop (stop + 1) text ≡ afterLine (drop at text)
@@ -69,7 +69,7 @@ module _ (ofRig : Bool) (boxes m start : ℕ) (text output₀ : List ℕ) (enoug
       → place ≡ placeOf (c .event) → place ≤ 9 → before ≡ getD held place other → y ≡ readingsOf (c .readings)
       → length table′ ≡ length table → length lengths′ ≡ length lengths → length output′ ≡ length output
       → Leaves (afterEvent before (c .event) y (number + 1) table lengths) end one table′ lengths′ output output′
-      → Sofar ofRig boxes m start text output₀ whole output′ (set held place (one .replica)) table′ lengths′ (one .end) (stop + 1) (number + 1)
+      → Sofar ofRig boxes m start text output₀ whole output′ (set held place (one .kept)) table′ lengths′ (one .end) (stop + 1) (number + 1)
   one-more {table′} {lengths′} {output′} {one} stop place c before other y h l first following ec ep low eb ey et el eo k =
       let size = s .same in
       let room = s .room in
@@ -81,7 +81,7 @@ module _ (ofRig : Bool) (boxes m start : ℕ) (text output₀ : List ℕ) (enoug
       let after = after-one held table lengths table′ lengths′ output output′ (number + 1) end place c before y one ep there ey (omega arith) k in
       record {
         early = omega arith;
-        ten = length-set held place (one .replica) ∙ s .ten;
+        ten = length-set held place (one .kept) ∙ s .ten;
         frames = et ∙ s .frames;
         sizes = el ∙ s .sizes;
         same = eo ∙ s .same;

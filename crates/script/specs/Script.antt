@@ -11,7 +11,6 @@ use Rattle.text.specs.Lines.{firstLine, afterLine, linesOf}
 use Rattle.line.specs.declared.events.Called.{Called}
 use Rattle.line.specs.Events.{readingsOf, called}
 use Rattle.replica.specs.declared.Settings.{Settings}
-use Rattle.replica.specs.declared.Replica.{Replica}
 use Rattle.replica.specs.Settings.{blankSettings}
 use Rattle.replica.specs.Settings.{settingsRefusal}
 use Rattle.replica.specs.Calls.{made}
@@ -19,36 +18,37 @@ use Rattle.opening.specs.declared.Opening.{Opening}
 use Rattle.opening.specs.declared.Opening.the-variants.{Bad, Refused, Ready}
 use Rattle.opening.specs.Opening.{sizesIn, openedBy}
 use Rattle.setup.specs.Bench.{bench}
+use Rattle.script.specs.declared.play.Kept.{Kept}
 use Rattle.script.specs.Printing.{headerLine, badAlone, refusalLine}
-use Rattle.script.specs.Play.{most, tableLength, lineRoom, placeOf, afterEvent, freshBoxes}
+use Rattle.script.specs.Play.{most, tableLength, lineRoom, unstored, placeOf, afterEvent, freshBoxes}
 
 -- ---- what they leave
 
--- what lines leave: the replicas, box b's at place b, the table of frames sent, the list of their lengths, and what was printed
+-- what lines leave: what is kept of the boxes, of box b at place b, the table of frames sent, the list of their lengths, and what was printed
 pub record Left : Type 0 where
-  pub replicas : List Replica
+  pub kept : List Kept
   pub table : List ℕ
   pub lengths : List ℕ
   pub printed : List ℕ
 
 -- the same, of its four values
-abbrev pub left : List Replica → List ℕ → List ℕ → List ℕ → Left
-left replicas table lengths printed = record { replicas = replicas; table = table; lengths = lengths; printed = printed }
+abbrev pub left : List Kept → List ℕ → List ℕ → List ℕ → Left
+left kept table lengths printed = record { kept = kept; table = table; lengths = lengths; printed = printed }
 
--- before the first line: fresh replicas, no frame sent, and the header line printed
+-- before the first line: boxes with fresh replicas, no record stored, no frame sent, and the header line printed
 unfoldable pub unplayed : Settings → Left
 unplayed s = left (freshBoxes s) (replicate tableLength 0) (replicate (most + 1) 0) headerLine
 
--- the replica at a place; there is one at each place that an event has
-abbrev pub replicaAt : List Replica → ℕ → Replica
-replicaAt replicas place = getD replicas place (made blankSettings)
+-- what is kept of the box at a place; there is one at each place that an event has
+abbrev pub keptAt : List Kept → ℕ → Kept
+keptAt kept place = getD kept place (unstored (made blankSettings))
 
--- one line more, of this number, that calls for c: its box has the replica then that the line leaves, and what the line prints is printed after
+-- one line more, of this number, that calls for c: what the line leaves is kept of its box then, and what the line prints is printed after
 unfoldable pub afterCall : Left → ℕ → Called → Left
 afterCall l number c =
-    let a = afterEvent (replicaAt (l .replicas) (placeOf (c .event))) (c .event) (readingsOf (c .readings)) number (l .table) (l .lengths) in
+    let a = afterEvent (keptAt (l .kept) (placeOf (c .event))) (c .event) (readingsOf (c .readings)) number (l .table) (l .lengths) in
     record {
-      replicas = set (l .replicas) (placeOf (c .event)) (a .replica);
+      kept = set (l .kept) (placeOf (c .event)) (a .kept);
       table = a .table;
       lengths = a .lengths;
       printed = l .printed ++ a .printed;

@@ -5,6 +5,7 @@ ghost use lib.ListN.{length, take, drop};
 ghost use Rattle.text.specs.Lines.{firstLine, linesOf};
 ghost use Rattle.script.specs.Play.{most, tableLength, lineRoom};
 ghost use Rattle.script.specs.Script.{left, played, leftBy, groupOutput, openedOutput, benchOutput, rigOutput, outputRoom, Prints};
+use crate::play::Kept;
 use crate::play::LENGTHS;
 use crate::play::MOST;
 use crate::play::TABLE;
@@ -31,7 +32,7 @@ pub const OUTPUT: usize = 128040;
 // Plays the lines of a text after the first `start` bytes of the output.
 fn play_lines(
     of_rig: bool,
-    replicas: [Replica; 10],
+    kept: [Kept; 10],
     boxes: u8,
     m: u8,
     text: &[u8],
@@ -42,10 +43,10 @@ fn play_lines(
 ) -> usize
     requires { ⌜ (length (now table) ≡ tableLength) × (length (now lengths) ≡ most + 1) × (start + lineRoom * most ≤ length (now output)) ⌝ }
     ensures { λ r. ⌜ Prints
-        (played «of_rig» boxes m 0 (left replicas (now (table .entry)) (now (lengths .entry)) (take start (now (output .entry)))) (linesOf most (now (text .entry))) .printed)
+        (played «of_rig» boxes m 0 (left kept (now (table .entry)) (now (lengths .entry)) (take start (now (output .entry)))) (linesOf most (now (text .entry))) .printed)
         r (now (output .entry)) (now (output .exit)) × (start ≤ r) ⌝ }
 {
-    let mut held = replicas;
+    let mut held = kept;
     let mut end = start;
     let mut at = 0;
     let mut number = 0;
@@ -70,7 +71,7 @@ fn play_lines(
             output,
             end,
         );
-        let next = one.replica;
+        let next = one.kept;
         held[place] = next;
         end = one.end;
         at = stop + 1;
@@ -85,12 +86,12 @@ fn play_script(of_rig: bool, settings: Settings, text: &[u8], output: &mut [u8])
 {
     let mut table = [0u8; TABLE];
     let mut lengths = [0usize; LENGTHS];
-    let replicas = fresh(settings);
+    let kept = fresh(settings);
     let m = at_most(settings.law.m, 4);
     let start = put_header(output, 0);
     play_lines(
         of_rig,
-        replicas,
+        kept,
         settings.boxes,
         m as u8,
         text,

@@ -10,7 +10,8 @@ use Rattle.replica.specs.declared.Replica.{Replica}
 use Rattle.replica.specs.declared.Stepped.{Stepped}
 use Rattle.replica.specs.Calls.{Outcomes, tickOutcome, Gives, madeAnswer, made}
 use Rattle.steps.specs.Areas.{Areas, areasOf}
-use Rattle.steps.specs.Calls.{numberOf, Makes, Laid, Leaves}
+use Rattle.winder.specs.Answers.{numberOf}
+use Rattle.steps.specs.Calls.{Makes, Laid, Leaves}
 
 module _ (step : Replica → Outcomes) {number : ℕ} {held : Areas} {lengths frame frame′ command command′ : List ℕ} where
   -- at the replica that the step was called at

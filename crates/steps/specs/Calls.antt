@@ -4,24 +4,19 @@ use mathlib.Core.Path.{_≡_}
 use mathlib.Core.List.{List, [], _∷_}
 use lib.ListN.{length}
 use Rattle.bytes.specs.Areas.{over}
-use Rattle.scram.specs.Answers.{Answered, Done, Ignored, Refused, answered}
+use Rattle.scram.specs.Answers.{answered}
 use Rattle.replica.specs.declared.Settings.{Settings}
 use Rattle.replica.specs.declared.Replica.{Replica}
 use Rattle.replica.specs.declared.Stepped.{Stepped}
 use Rattle.replica.specs.Held as Replicas
 use Rattle.replica.specs.Frames.{sentBytes, issuedBytes}
 use Rattle.replica.specs.Calls.{Outcomes, madeAnswer, made}
+use Rattle.winder.specs.Answers.{numberOf}
 use Rattle.steps.specs.Areas.{Areas, heldOf, areasOf}
 
 -- the replica of these settings in a caller's areas
 abbrev pub replicaOf : Settings → Areas → Replica
 replicaOf s x = record { settings = s; held = heldOf x }
-
--- an answer as a number: "A refusal returns its number"; done is 0, and ignored is above every byte
-abbrev pub numberOf : Answered → ℕ
-numberOf Done = 0
-numberOf Ignored = 256
-numberOf (Refused number) = number
 
 -- making leaves its answer, and what the replica made holds
 pub record Makes (s : Settings) (number : ℕ) (held : Areas) : Type 0 where

@@ -1,14 +1,13 @@
 // The areas of a caller as a replica, and back.
 ghost use mathlib.Core.Path.{_≡_};
-ghost use Rattle.scram.specs.Answers.{answered};
 ghost use Rattle.steps.specs.Areas.{settingsOf, areas, heardOf, heardMarks, heldOf, areasOf};
-ghost use Rattle.steps.specs.Calls.{numberOf, Laid};
+ghost use Rattle.steps.specs.Calls.{Laid};
 use estimate::Estimate;
 use replica::Best;
 use replica::Held;
 use replica::Settings;
 use replica::Stepped;
-use scram::Answer;
+use winder::answers::replica_number;
 use winder::areas::mark_byte;
 use winder::areas::marks_of;
 use winder::areas::readings_of;
@@ -179,17 +178,6 @@ pub(crate) fn put_held(
     *best_values = y;
 }
 
-// An answer as a number: ignored is above every byte.
-pub(crate) fn number_of(answer: Answer) -> u32
-    ensures { λ r. ⌜ r ≡ numberOf (answered answer) ⌝ }
-{
-    match answer {
-        Answer::Done => 0,
-        Answer::Ignored => 256,
-        Answer::Refused(number) => number as u32,
-    }
-}
-
 // Lays out what a step gives, and its answer as a number.
 pub(crate) fn put_step(
     stepped: Stepped,
@@ -223,5 +211,5 @@ pub(crate) fn put_step(
     );
     *lengths = [stepped.frame, stepped.command];
     let answer = stepped.answer;
-    number_of(answer)
+    replica_number(answer)
 }

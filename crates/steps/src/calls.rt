@@ -6,12 +6,12 @@ ghost use Rattle.transmitters.specs.Numbers.{readingsOf};
 ghost use Rattle.steps.specs.Areas.{settingsOf, areas};
 ghost use Rattle.steps.specs.Calls.{replicaOf, Makes, Leaves};
 use crate::areas::held_of;
-use crate::areas::number_of;
 use crate::areas::put_held;
 use crate::areas::put_step;
 use crate::areas::settings_of;
 use replica::Replica;
 use transmitters::numbers::readings_of;
+use winder::answers::replica_number;
 
 // A fresh replica.
 #[no_mangle]
@@ -58,7 +58,7 @@ pub extern "C" fn steps_make(
         best_values,
     );
     let answer = made.answer;
-    number_of(answer)
+    replica_number(answer)
 }
 
 // A tick with readings, each by its kind and its bits.

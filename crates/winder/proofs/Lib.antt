@@ -1,1 +1,4 @@
 pub mod Refused
+pub mod Recordings
+pub mod Stepped
+pub mod Made

@@ -7,7 +7,7 @@ major = 1
 
 -- a further call makes a new minor version
 abbrev pub minor : ℕ
-minor = 2
+minor = 3
 
 -- both as one number
 abbrev pub version : ℕ

@@ -75,4 +75,70 @@ extern "C" {
         area_length: usize,
         length: &mut usize,
     ) -> u32;
+
+    pub fn winder_make(
+        n: usize,
+        m: usize,
+        p: usize,
+        a: &[i32; 36],
+        l: &[i32; 24],
+        c: &[i32; 24],
+        k: &[i32; 24],
+        low: &[i32; 4],
+        high: &[i32; 4],
+        start: &[i32; 6],
+        boxes: u8,
+        own: u8,
+        replica: *mut u8,
+        replica_length: usize,
+    ) -> u32;
+
+    pub fn winder_tick(
+        replica: *mut u8,
+        replica_length: usize,
+        kinds: &[u8; 4],
+        bits: &[u32; 4],
+        frame: *mut u8,
+        frame_length: usize,
+        command: *mut u8,
+        command_length: usize,
+        lengths: &mut [usize; 2],
+    ) -> u32;
+
+    pub fn winder_give_up(
+        replica: *mut u8,
+        replica_length: usize,
+        frame: *mut u8,
+        frame_length: usize,
+        command: *mut u8,
+        command_length: usize,
+        lengths: &mut [usize; 2],
+    ) -> u32;
+
+    pub fn winder_arrive(
+        replica: *mut u8,
+        replica_length: usize,
+        bytes: *const u8,
+        bytes_length: usize,
+        frame: *mut u8,
+        frame_length: usize,
+        command: *mut u8,
+        command_length: usize,
+        lengths: &mut [usize; 2],
+    ) -> u32;
+
+    pub fn winder_record(
+        replica: *const u8,
+        replica_length: usize,
+        area: *mut u8,
+        area_length: usize,
+    ) -> u32;
+
+    pub fn winder_return(
+        stored: *const u8,
+        stored_length: usize,
+        missed: u32,
+        replica: *mut u8,
+        replica_length: usize,
+    ) -> u32;
 }

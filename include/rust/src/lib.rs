@@ -6,12 +6,13 @@
 mod declarations;
 
 use declarations::{
-    winder_command, winder_convert_single, winder_read_command, winder_read_frame, winder_update,
-    winder_version, winder_write_frame, winder_write_page,
+    winder_arrive, winder_command, winder_convert_single, winder_give_up, winder_make,
+    winder_read_command, winder_read_frame, winder_record, winder_return, winder_tick,
+    winder_update, winder_version, winder_write_frame, winder_write_page,
 };
 
 /// The version of these declarations: major version times 100, and minor version.
-pub const VERSION: u32 = 102;
+pub const VERSION: u32 = 103;
 
 /// The version of the archive.
 #[inline]
@@ -187,6 +188,137 @@ pub fn write_page_words(p: usize, words: &[u32], area: &mut [u8], length: &mut u
             area.as_mut_ptr(),
             area.len(),
             length,
+        )
+    }
+}
+
+/// The length of a record.
+pub const RECORD: usize = 616;
+
+/// The most periods that a box may have missed.
+pub const MISSED_MAX: u32 = 10000;
+
+/// What a step gives where the event was ignored.
+pub const IGNORED: u32 = 256;
+
+/// A fresh replica of box `own` in a group of `boxes`: its record, at the start of an area. Gives 0 or a refusal's number.
+#[inline]
+pub fn make(settings: &Settings, start: &[i32; 6], boxes: u8, own: u8, replica: &mut [u8]) -> u32 {
+    let Settings {
+        n,
+        m,
+        p,
+        a,
+        l,
+        c,
+        k,
+        low,
+        high,
+    } = settings;
+    unsafe {
+        winder_make(
+            *n,
+            *m,
+            *p,
+            a,
+            l,
+            c,
+            k,
+            low,
+            high,
+            start,
+            boxes,
+            own,
+            replica.as_mut_ptr(),
+            replica.len(),
+        )
+    }
+}
+
+/// The areas that a step is lent, and the lengths that it writes to the frame area and the command area.
+#[derive(Debug)]
+pub struct Lent<'a> {
+    pub frame: &'a mut [u8],
+    pub command: &'a mut [u8],
+    pub lengths: &'a mut [usize; 2],
+}
+
+/// A tick of the replica whose record this is, with readings by their kinds (0 missing, 1 a count, 2 a single) and bits. Gives 0, `IGNORED`
+/// or a refusal's number, as the other steps do.
+#[inline]
+pub fn tick(replica: &mut [u8], kinds: &[u8; 4], bits: &[u32; 4], lent: Lent) -> u32 {
+    unsafe {
+        winder_tick(
+            replica.as_mut_ptr(),
+            replica.len(),
+            kinds,
+            bits,
+            lent.frame.as_mut_ptr(),
+            lent.frame.len(),
+            lent.command.as_mut_ptr(),
+            lent.command.len(),
+            lent.lengths,
+        )
+    }
+}
+
+/// The view is given up.
+#[inline]
+pub fn give_up(replica: &mut [u8], lent: Lent) -> u32 {
+    unsafe {
+        winder_give_up(
+            replica.as_mut_ptr(),
+            replica.len(),
+            lent.frame.as_mut_ptr(),
+            lent.frame.len(),
+            lent.command.as_mut_ptr(),
+            lent.command.len(),
+            lent.lengths,
+        )
+    }
+}
+
+/// Bytes that arrived as a frame.
+#[inline]
+pub fn arrive(replica: &mut [u8], bytes: &[u8], lent: Lent) -> u32 {
+    unsafe {
+        winder_arrive(
+            replica.as_mut_ptr(),
+            replica.len(),
+            bytes.as_ptr(),
+            bytes.len(),
+            lent.frame.as_mut_ptr(),
+            lent.frame.len(),
+            lent.command.as_mut_ptr(),
+            lent.command.len(),
+            lent.lengths,
+        )
+    }
+}
+
+/// The record of a replica, at the start of another area. Gives 0 or a refusal's number.
+#[inline]
+pub fn record(replica: &[u8], area: &mut [u8]) -> u32 {
+    unsafe {
+        winder_record(
+            replica.as_ptr(),
+            replica.len(),
+            area.as_mut_ptr(),
+            area.len(),
+        )
+    }
+}
+
+/// The replica that returns from a stored record after so many missed periods, at the start of an area. Gives 0 or a refusal's number.
+#[inline]
+pub fn return_from(stored: &[u8], missed: u32, replica: &mut [u8]) -> u32 {
+    unsafe {
+        winder_return(
+            stored.as_ptr(),
+            stored.len(),
+            missed,
+            replica.as_mut_ptr(),
+            replica.len(),
         )
     }
 }

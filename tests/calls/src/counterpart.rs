@@ -1,14 +1,18 @@
 //! The second implementation, under the signatures of `first`.
 
+use second::calls;
 use second::frame;
 use second::law::{self, Settings};
 use second::page;
 use second::reading;
 use second::refusal::Refusal;
+use second::replica;
 
 use crate::areas::{of_frame, row, to_frame, Fields, Sizes};
+use crate::handed_readings::numbers_of;
 use crate::page_areas::{of_second, to_second, words_of, ENTRY_WORDS, PAGE_WORDS};
 use crate::page_calls::Writing;
+use crate::record_calls::{Areas, Asked};
 
 /// The answer's number; what is given goes to its area where nothing is
 /// refused.
@@ -95,4 +99,29 @@ fn lines_of(entries: &[page::Entry]) -> (usize, [u32; PAGE_WORDS]) {
         *place = words_of(&of_second(entry));
     }
     (entries.len(), words)
+}
+
+pub fn on_record(asked: &Asked, areas: Areas) -> u32 {
+    let Areas {
+        record,
+        area,
+        frame,
+        command,
+        lengths,
+    } = areas;
+    let lent = replica::Areas { frame, command };
+    match asked {
+        Asked::Make(making) => {
+            let settings = sized(making.sizes, &making.settings);
+            calls::make(making.boxes, making.own, settings, area)
+        }
+        Asked::Tick { readings } => {
+            let (kinds, bits) = numbers_of(readings);
+            calls::tick(record, &kinds, &bits, lent, lengths)
+        }
+        Asked::GiveUp => calls::give_up(record, lent, lengths),
+        Asked::Arrive { bytes } => calls::arrive(record, bytes, lent, lengths),
+        Asked::Record => calls::copy(record, area),
+        Asked::Return { missed } => calls::return_to(record, *missed, area),
+    }
 }

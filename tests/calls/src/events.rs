@@ -30,15 +30,15 @@ pub fn make(prng: &mut Prng, handed_in: &HandedIn) -> Event {
 /// At times with readings at or above m that are there; else with such as are
 /// missing or count as missing.
 fn tick(prng: &mut Prng, m: usize) -> Event {
-    let everywhere = prng.chance(20);
-    let readings = [0, 1, 2, 3].map(|j| match j < m || everywhere {
-        true => handed_readings::any(prng),
-        false => handed_readings::missing(prng),
-    });
+    let below = match prng.chance(20) {
+        true => 4,
+        false => m,
+    };
+    let readings = handed_readings::below(prng, below);
     Event::Tick { readings }
 }
 
-fn arrival(prng: &mut Prng, handed_in: &HandedIn) -> Event {
+pub fn arrival(prng: &mut Prng, handed_in: &HandedIn) -> Event {
     let Fit { n, m, .. } = handed_in.fit;
     let kind = kind(prng, handed_in);
     let mut draft = Draft::whole(prng, kind, n, m);

@@ -4,10 +4,10 @@
 use std::env;
 use std::process::Command;
 
-use second::fault::{Fault, FRAME_NAMES, LAW_NAMES, NAMES, PAGE_NAMES, READING_NAMES};
-use second::fault::{ROUNDING_NAMES, STEP_NAMES, VARIABLE};
+use second::fault::{Fault, CALL_NAMES, FRAME_NAMES, LAW_NAMES, NAMES, PAGE_NAMES};
+use second::fault::{READING_NAMES, RECORD_NAMES, ROUNDING_NAMES, STEP_NAMES, VARIABLE};
 
-use crate::{frames, law, lists, pages, singles, steps};
+use crate::{frames, law, lists, pages, records, singles, steps};
 
 const MOST_CALLS: usize = 100_000;
 const MOST_LISTS: usize = 20_000;
@@ -28,7 +28,9 @@ pub fn table(seed: u64) -> Result<(), String> {
         & rows(seed, "steps", &READING_NAMES)?
         & rows(seed, "steps", &ROUNDING_NAMES)?
         & rows(seed, "lists", &of_lists())?
-        & rows(seed, "pages", &of_pages())?;
+        & rows(seed, "pages", &of_pages())?
+        & rows(seed, "records", &RECORD_NAMES)?
+        & rows(seed, "records", &CALL_NAMES)?;
     match all_found {
         true => Ok(()),
         false => Err("a planted fault was not found".to_string()),
@@ -108,6 +110,7 @@ pub fn search(calls: &str, seed: u64) -> Result<(), String> {
         "steps" => first_difference(steps::compare, seed, MOST_CALLS),
         "lists" => first_difference(lists::compare, seed, MOST_LISTS),
         "pages" => first_difference(pages::compare, seed, MOST_PAGES),
+        "records" => first_difference(records::compare, seed, MOST_CALLS),
         _ => return Err(format!("{calls}: no calls that are searched")),
     };
     match found {

@@ -4,8 +4,10 @@
 use second::law::Settings;
 
 use crate::areas::{Fields, Sizes};
+use crate::handed_readings::numbers_of;
 use crate::page_areas::{words_of, PAGE_WORDS};
 use crate::page_calls::Writing;
+use crate::record_calls::{Areas, Asked};
 
 /// The sizes in the settings are not looked at.
 pub fn sized(sizes: Sizes, settings: &Settings) -> winder::Settings {
@@ -73,6 +75,30 @@ pub fn write_page(call: &Writing, area: &mut [u8], length: &mut usize) -> u32 {
 
 pub fn read_page(p: usize, bytes: &[u8], count: &mut usize, words: &mut [u32; PAGE_WORDS]) -> u32 {
     steps::read_page(p, bytes, count, words)
+}
+
+pub fn on_record(asked: &Asked, areas: Areas) -> u32 {
+    let Areas { record, area, .. } = areas;
+    let lent = winder::Lent {
+        frame: areas.frame,
+        command: areas.command,
+        lengths: areas.lengths,
+    };
+    match asked {
+        Asked::Make(making) => {
+            let settings = sized(making.sizes, &making.settings);
+            let start = &making.settings.start;
+            winder::make(&settings, start, making.boxes, making.own, area)
+        }
+        Asked::Tick { readings } => {
+            let (kinds, bits) = numbers_of(readings);
+            winder::tick(record, &kinds, &bits, lent)
+        }
+        Asked::GiveUp => winder::give_up(record, lent),
+        Asked::Arrive { bytes } => winder::arrive(record, bytes, lent),
+        Asked::Record => winder::record(record, area),
+        Asked::Return { missed } => winder::return_from(record, *missed, area),
+    }
 }
 
 #[cfg(test)]

@@ -43,6 +43,21 @@ pub fn row(readings: &[Handed; 4]) -> Row {
     readings.map(Handed::reading)
 }
 
+/// As a call takes them: kinds and bits.
+pub fn numbers_of(readings: &[Handed; 4]) -> ([u8; 4], [u32; 4]) {
+    let kinds = readings.map(|reading| reading.kind);
+    (kinds, readings.map(|reading| reading.bits))
+}
+
+/// Any in the places below m; such as are missing or count as missing in the
+/// others.
+pub fn below(prng: &mut Prng, m: usize) -> [Handed; 4] {
+    [0, 1, 2, 3].map(|j| match j < m {
+        true => any(prng),
+        false => missing(prng),
+    })
+}
+
 /// A count, a single or none.
 pub fn any(prng: &mut Prng) -> Handed {
     match prng.below(8) {

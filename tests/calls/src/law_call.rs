@@ -59,6 +59,16 @@ pub fn make(prng: &mut Prng) -> LawCall {
     }
 }
 
+/// Settings of a replica that nothing refuses, with their sizes.
+pub fn whole_settings(prng: &mut Prng) -> (Sizes, Settings) {
+    let sizes = sizes(prng);
+    let mut settings = tables(prng, sizes);
+    (settings.lower, settings.upper) = limits(prng);
+    order_limits(sizes.p, &mut settings);
+    settings.start = [(); 6].map(|()| value(prng));
+    (sizes, settings)
+}
+
 fn one_value(prng: &mut Prng, sort: Values) -> i32 {
     match sort {
         Values::Few => prng.between(-3, 3),

@@ -1,6 +1,6 @@
-//! Compares frames, law calls, conversions of readings, steps and shift pages
-//! of the first implementation, through its static libraries `winder` and
-//! `steps`, with the second implementation of document 01.
+//! Compares frames, law calls, conversions of readings, steps, shift pages and
+//! calls on records of the first implementation, through its static libraries
+//! `winder` and `steps`, with the second implementation of document 01.
 
 #![forbid(unsafe_code)]
 
@@ -13,6 +13,7 @@ mod damage;
 mod draft;
 mod events;
 mod faults;
+mod field_damage;
 mod first;
 mod frames;
 mod handed_in;
@@ -32,6 +33,14 @@ mod pages;
 #[path = "../../compare/src/prng.rs"]
 mod prng;
 mod reach;
+mod record_calls;
+mod record_counts;
+mod record_damage;
+mod record_events;
+mod record_group;
+mod record_layout;
+mod record_tables;
+mod records;
 mod report;
 #[path = "../../compare/src/single_bits.rs"]
 mod single_bits;
@@ -54,8 +63,9 @@ const USAGE: &str = "usage:
   calls steps COUNT SEED
   calls lists COUNT SEED
   calls pages COUNT SEED
+  calls records COUNT SEED
   calls faults SEED
-  calls search frames|law|singles|steps|lists|pages SEED
+  calls search frames|law|singles|steps|lists|pages|records SEED
 
 The last is for this program's own use, with a fault planted.";
 
@@ -80,6 +90,7 @@ fn run(words: &[&str]) -> Result<(), String> {
         ["steps", count, seed] => compare("steps", steps::compare, count, seed),
         ["lists", count, seed] => compare("lists", lists::compare, count, seed),
         ["pages", count, seed] => compare("pages", pages::compare, count, seed),
+        ["records", count, seed] => compare("calls on records", records::compare, count, seed),
         ["faults", seed] => faults::table(number(seed)?),
         ["search", calls, seed] => {
             second::fault::plant_from_environment()?;

@@ -5,8 +5,8 @@ use second::law::Readings;
 use second::replica::{Estimate, Heard, Mode, Replica};
 use steps::Held;
 
-use crate::areas::row;
-use crate::handed_in::HandedIn;
+use crate::areas::{row, Sizes};
+use crate::handed_in::{Fit, HandedIn};
 use crate::{counterpart, first};
 
 pub fn settings_of(handed_in: &HandedIn) -> steps::Settings {
@@ -84,6 +84,21 @@ pub fn held_of(replica: &Replica) -> Held {
         best_state: best.estimate.state,
         best_present: marks_of(&best.estimate.readings),
         best_values: best.estimate.readings.values,
+    }
+}
+
+/// A replica as it may be handed in, with settings that nothing refuses.
+pub fn handed_in_of(replica: &Replica) -> HandedIn {
+    let settings = replica.settings;
+    let [n, m, p] = [settings.n, settings.m, settings.p].map(usize::from);
+    let (boxes, own) = (replica.boxes, replica.own);
+    HandedIn {
+        boxes,
+        own,
+        sizes: Sizes { n, m, p },
+        settings,
+        held: held_of(replica),
+        fit: Fit { boxes, own, n, m },
     }
 }
 

@@ -6,7 +6,7 @@ use steps::{Held, Lent, IGNORED};
 use crate::areas::PATTERN;
 use crate::events::{self, Event};
 use crate::handed_in::{self, HandedIn};
-use crate::handed_readings::row;
+use crate::handed_readings::{numbers_of, row};
 use crate::prng::Prng;
 use crate::report::alike;
 use crate::step_areas::{held_of, replica_of, settings_of};
@@ -107,8 +107,7 @@ fn first(call: &Call) -> Left {
     left.answer = match &call.event {
         Event::Make => steps::make(&settings, held),
         Event::Tick { readings } => {
-            let kinds = readings.map(|reading| reading.kind);
-            let bits = readings.map(|reading| reading.bits);
+            let (kinds, bits) = numbers_of(readings);
             steps::tick(&settings, held, &kinds, &bits, lent)
         }
         Event::GiveUp => steps::give_up(&settings, held, lent),

@@ -6,12 +6,28 @@ use second::reading::Reading;
 
 use crate::single_bits::{converted, CLASSES};
 
+/// What returns are counted by; one may be of several.
+pub const RETURNS: [&str; 10] = [
+    "with 0 missed",
+    "with 1 missed",
+    "with 2 to 9,999 missed",
+    "with 10,000 missed",
+    "past all others",
+    "of an open proposal's coordinator",
+    "of a decided box",
+    "in a view change",
+    "twice in a row",
+    "that undo steps",
+];
+
 #[derive(Clone, Debug, Default, PartialEq, Eq)]
 pub struct Counts {
     pub bench_scripts: usize,
     pub rig_scripts: usize,
     /// Rig scripts whose first line makes no group.
     pub spoiled_scripts: usize,
+    /// Rig scripts with power cycles.
+    pub storing_scripts: usize,
     pub lines: usize,
     pub ticks: usize,
     /// Readings handed to ticks, by kind.
@@ -43,8 +59,16 @@ pub struct Counts {
     pub made_up_ticks: usize,
     pub malformed: usize,
     pub ignored: usize,
+    pub stores: usize,
+    /// Returns not refused, by their case.
+    pub returns: [usize; RETURNS.len()],
+    /// Of more than half of the boxes at once.
+    pub blackouts: usize,
+    pub steps_lost: usize,
+    pub frames_never_left: usize,
+    pub commands_never_left: usize,
     /// By refusal number; place 0 is unused.
-    pub refused: [usize; 13],
+    pub refused: [usize; 17],
 }
 
 impl Counts {
@@ -72,6 +96,33 @@ impl Counts {
         }
     }
 
+    /// Whether a script can be answered by this refusal: 13 to 15 are those
+    /// of pages and records.
+    fn is_an_answer(number: usize) -> bool {
+        !(13..=15).contains(&number)
+    }
+
+    fn write_power(&self, out: &mut fmt::Formatter<'_>) -> fmt::Result {
+        let of_returns = RETURNS.iter().zip(self.returns);
+        // The first four cases are those of the missed count.
+        let returns: usize = self.returns[..4].iter().sum();
+        writeln!(out, "{:<34}{:>9}", "stores", self.stores)?;
+        writeln!(out, "{:<34}{returns:>9}", "returns")?;
+        for (name, count) in of_returns {
+            writeln!(out, "  {name:<32}{count:>9}")?;
+        }
+        let named = [
+            ("  steps that they undo", self.steps_lost),
+            ("frames that never left", self.frames_never_left),
+            ("commands that never left", self.commands_never_left),
+            ("power cuts of a majority", self.blackouts),
+        ];
+        for (name, count) in named {
+            writeln!(out, "{name:<34}{count:>9}")?;
+        }
+        Ok(())
+    }
+
     fn write_readings(&self, out: &mut fmt::Formatter<'_>) -> fmt::Result {
         let named = [
             ("readings: counts", self.handed_counts),
@@ -95,6 +146,7 @@ impl fmt::Display for Counts {
             ("bench scripts", self.bench_scripts),
             ("rig scripts", self.rig_scripts),
             ("  with a spoiled first line", self.spoiled_scripts),
+            ("  with power cycles", self.storing_scripts),
             ("lines", self.lines),
             ("ticks", self.ticks),
             ("  to make up for missed periods", self.made_up_ticks),
@@ -117,8 +169,12 @@ impl fmt::Display for Counts {
         for (name, count) in named {
             writeln!(out, "{name:<34}{count:>9}")?;
         }
+        self.write_power(out)?;
         self.write_readings(out)?;
         for (number, count) in self.refused.iter().enumerate().skip(1) {
+            if !Self::is_an_answer(number) {
+                continue;
+            }
             writeln!(
                 out,
                 "{:<34}{count:>9}",

@@ -5,17 +5,26 @@
 //!
 //! It also takes the decided states that show: a box that wrote a command
 //! for period k shows at its next tick the state that it decided on.
+//!
+//! Document 02, L4: where records are stored, commands that never left don't
+//! count, and a box that returns has behind it the rows of the record and one
+//! with no reading for each missed period.
 
-use std::collections::{BTreeMap, HashSet};
+use std::collections::{BTreeMap, HashMap};
 
-use second::law::{self, Readings, Settings, State};
+use second::law::{self, Settings, State};
 
 use crate::group::Group;
-use crate::single_bits;
+use crate::past::{Past, Row};
+use crate::played::{self, Host, Played, What};
 
 /// With more states than this the search forgets them all and goes on from
 /// the next decided state that shows.
 const MOST_STATES: usize = 20_000;
+
+/// The same with more updates than this from one decided period to the next:
+/// a group may miss thousands of periods.
+const MOST_UPDATES: usize = 1_000_000;
 
 /// What the check came to for one output.
 #[derive(Clone, Copy, Debug, Default, PartialEq, Eq)]
@@ -24,96 +33,160 @@ pub struct Checked {
     /// Those whose command and state were held against the states reached;
     /// the others only against each other.
     pub searched_periods: usize,
+    /// Decided periods that a box missed which has returned since.
+    pub missed_somewhere: usize,
+    /// Of those searched, such as need the all-absent row of a missed period,
+    /// their own or one since the last decided period before.
+    pub missed_needed: usize,
 }
 
 /// Gives what does not fit, if anything.
-pub fn check(group: &Group, lines: &[Vec<u8>], output: &[u8]) -> Result<Checked, String> {
-    let seen = Seen::collect(group, lines, output)?;
+pub fn check(
+    group: &Group,
+    host: Host,
+    lines: &[Vec<u8>],
+    output: &[u8],
+) -> Result<Checked, String> {
+    let played = played::played(lines, output)?;
+    let seen = Reader::read(group, host, &played)?;
     seen.search(&group.settings)
 }
 
-/// All that the check takes from script and output, by period.
+/// Reads a script with its output.
+struct Reader {
+    seen: Seen,
+    /// What is behind each box, and behind the record that it stored last.
+    boxes: Vec<(Past, Option<Past>)>,
+}
+
+impl Reader {
+    fn read(group: &Group, host: Host, played: &[Option<Played>]) -> Result<Seen, String> {
+        let left = played::leaving(host, played);
+        let mut reader = Reader {
+            seen: Seen::default(),
+            boxes: vec![Default::default(); group.boxes.into()],
+        };
+        for (line, left) in played.iter().zip(left) {
+            match line {
+                Some(line) if line.is_ok => reader.take(line, left.is_some())?,
+                _ => {}
+            }
+        }
+        reader
+            .boxes
+            .iter()
+            .for_each(|(past, _)| reader.seen.take_rows(past));
+        Ok(reader.seen)
+    }
+
+    fn take(&mut self, line: &Played, has_left: bool) -> Result<(), String> {
+        let no_box = || format!("no box {}", line.place + 1);
+        let (past, stored) = self.boxes.get_mut(line.place).ok_or_else(no_box)?;
+        let shown = match &line.what {
+            What::Tick(readings) => past.tick(*readings),
+            What::GiveUp | What::Deliver(_) => None,
+            What::Store => {
+                *stored = Some(past.clone());
+                None
+            }
+            What::Return { missed } => {
+                *past = stored.clone().ok_or("a return from no record")?;
+                past.miss(*missed)
+            }
+        };
+        if let Some(period) = shown {
+            self.seen.take_state(period, line.state.clone())?;
+        }
+        if let (Some(command), true) = (&line.command, has_left) {
+            past.decide(line.period);
+            self.seen.take_command(line.period, command.clone())?;
+        }
+        Ok(())
+    }
+}
+
+/// All that the check takes from a history, by period.
 #[derive(Default)]
-struct Seen {
-    rows: BTreeMap<u32, Vec<Readings>>,
+pub struct Seen {
+    /// A row is a missed one where no box was handed it.
+    rows: BTreeMap<u32, Vec<Row>>,
     commands: BTreeMap<u32, Vec<i32>>,
     states: BTreeMap<u32, Vec<i32>>,
 }
 
-/// What is known of one box while the output is read.
-#[derive(Clone, Default)]
-struct BoxSeen {
-    ticks: u32,
-    /// A period it decided, until its next tick.
-    decided: Option<u32>,
-}
+/// The states reached, each with whether that takes no row of a missed period
+/// since the last decided one.
+type Reached = HashMap<State, bool>;
 
 impl Seen {
-    fn collect(group: &Group, lines: &[Vec<u8>], output: &[u8]) -> Result<Seen, String> {
-        let output = std::str::from_utf8(output).map_err(|error| error.to_string())?;
-        let mut seen = Seen::default();
-        let mut boxes = vec![BoxSeen::default(); group.boxes.into()];
-        for (line, row) in lines.iter().zip(output.lines().skip(1)) {
-            let fields: Vec<&str> = row.split(' ').collect();
-            if let [_, number, "ok", period, _, _, _, state, _, command] = fields[..] {
-                let place: usize = number.parse().map_err(|_| row.to_string())?;
-                let known = boxes.get_mut(place.wrapping_sub(1)).ok_or(row)?;
-                seen.take_tick(known, line, &values(state).ok_or(row)?)?;
-                if command != "-" {
-                    let period = period.parse().map_err(|_| row.to_string())?;
-                    let command = values(command).ok_or(row)?;
-                    note(&mut seen.commands, period, command, "commands")?;
-                    known.decided = Some(period);
-                }
-            }
-        }
-        Ok(seen)
+    pub fn take_command(&mut self, period: u32, command: Vec<i32>) -> Result<(), String> {
+        note(&mut self.commands, period, command, "commands")
     }
 
-    /// "Row k is one that some box was handed for period k: by that box's
-    /// k-th tick not refused."
-    fn take_tick(&mut self, known: &mut BoxSeen, line: &[u8], state: &[i32]) -> Result<(), String> {
-        let Some(words) = line.strip_prefix(b"T ") else {
-            return Ok(());
-        };
-        let shown = || format!("a tick {:?}", String::from_utf8_lossy(line));
-        let row = handed_row(words).ok_or_else(shown)?;
-        known.ticks += 1;
-        let rows = self.rows.entry(known.ticks).or_default();
-        if !rows.contains(&row) {
-            rows.push(row);
+    pub fn take_state(&mut self, period: u32, state: Vec<i32>) -> Result<(), String> {
+        note(&mut self.states, period, state, "decided states")
+    }
+
+    /// Takes the rows behind a box at the end, once all commands are taken.
+    pub fn take_rows(&mut self, past: &Past) {
+        let periods = 1..=self.last_decided();
+        for (period, row) in periods.zip(past.rows()) {
+            let rows = self.rows.entry(period).or_default();
+            match rows.iter_mut().find(|known| known.readings == row.readings) {
+                Some(known) => known.is_missed &= row.is_missed,
+                None => rows.push(*row),
+            }
         }
-        match known.decided.take() {
-            Some(period) => note(&mut self.states, period, state.to_vec(), "decided states"),
-            None => Ok(()),
-        }
+    }
+
+    fn last_decided(&self) -> u32 {
+        self.commands.keys().next_back().copied().unwrap_or(0)
     }
 
     /// Follows the single controller over all choices of rows at once.
-    fn search(&self, settings: &Settings) -> Result<Checked, String> {
+    pub fn search(&self, settings: &Settings) -> Result<Checked, String> {
         let mut checked = Checked {
             decided_periods: self.commands.len(),
+            missed_somewhere: self.missed_somewhere(),
             ..Checked::default()
         };
-        let mut reached = Some(HashSet::from([start(settings)]));
-        let last = self.commands.keys().next_back().copied().unwrap_or(0);
-        for period in 1..=last {
-            reached = reached.and_then(|states| self.step(settings, period, &states));
+        let mut reached = Some(Reached::from([(start(settings), true)]));
+        let mut updates = 0;
+        for period in 1..=self.last_decided() {
+            reached = reached.and_then(|states| self.step(settings, period, &states, &mut updates));
             if !self.commands.contains_key(&period) {
                 continue;
             }
+            updates = 0;
             match &mut reached {
                 Some(states) => {
-                    states.retain(|state| self.fits(settings, period, state));
+                    states.retain(|state, _| self.fits(settings, period, state));
                     if states.is_empty() {
                         return Err(format!("period {period}: no choice of rows gives it"));
                     }
                     checked.searched_periods += 1;
+                    let without = states.values().any(|&without| without);
+                    checked.missed_needed += usize::from(!without);
+                    states.values_mut().for_each(|without| *without = true);
                 }
-                None => reached = self.shown_state(period).map(|state| HashSet::from([state])),
+                None => {
+                    let state = self.shown_state(period);
+                    reached = state.map(|state| Reached::from([(state, true)]));
+                }
             }
         }
         Ok(checked)
+    }
+
+    fn missed_somewhere(&self) -> usize {
+        let is_missed = |period| {
+            let rows = self.rows.get(period);
+            rows.is_some_and(|rows| rows.iter().any(|row| row.is_missed))
+        };
+        self.commands
+            .keys()
+            .filter(|period| is_missed(period))
+            .count()
     }
 
     /// The states after one more period; none if there are too many.
@@ -121,15 +194,18 @@ impl Seen {
         &self,
         settings: &Settings,
         period: u32,
-        states: &HashSet<State>,
-    ) -> Option<HashSet<State>> {
+        states: &Reached,
+        updates: &mut usize,
+    ) -> Option<Reached> {
         let rows = self.rows.get(&period).map_or(&[][..], Vec::as_slice);
-        let mut next = HashSet::new();
-        for state in states {
+        let mut next = Reached::new();
+        for (state, without) in states {
             for row in rows {
-                next.insert(law::update(settings, state, row).expect("good settings"));
+                let state = law::update(settings, state, &row.readings).expect("good settings");
+                *next.entry(state).or_default() |= without & !row.is_missed;
             }
-            if next.len() > MOST_STATES {
+            *updates += rows.len();
+            if next.len() > MOST_STATES || *updates > MOST_UPDATES {
                 return None;
             }
         }
@@ -176,45 +252,6 @@ fn start(settings: &Settings) -> State {
     state
 }
 
-/// Numbers between commas.
-fn values(field: &str) -> Option<Vec<i32>> {
-    field.split(',').map(|word| word.parse().ok()).collect()
-}
-
-/// The row of a tick, from its box number on. "In the run of demand 3 a
-/// reading means its converted value."
-fn handed_row(words: &[u8]) -> Option<Readings> {
-    let words = std::str::from_utf8(words).ok()?;
-    let mut row = Readings::default();
-    for (j, word) in words.split(' ').skip(1).enumerate() {
-        let place = row.values.get_mut(j)?;
-        if let Some(value) = reading(word)? {
-            *place = value;
-            row.marks |= 1 << j;
-        }
-    }
-    Some(row)
-}
-
-/// What a word stands for: a value, or a reading that is missing. None where
-/// it is no reading's.
-fn reading(word: &str) -> Option<Option<i32>> {
-    match word.as_bytes() {
-        b"-" => Some(None),
-        [b'f', digits @ ..] => bits(digits).map(single_bits::converted),
-        _ => word.parse().ok().map(Some),
-    }
-}
-
-/// Eight digits of 0 to 9 and a to f, the highest first.
-fn bits(digits: &[u8]) -> Option<u32> {
-    let is_digit = |digit: &u8| matches!(digit, b'0'..=b'9' | b'a'..=b'f');
-    if digits.len() != 8 || !digits.iter().all(is_digit) {
-        return None;
-    }
-    u32::from_str_radix(std::str::from_utf8(digits).ok()?, 16).ok()
-}
-
 #[cfg(test)]
 mod tests {
     use super::*;
@@ -238,7 +275,7 @@ mod tests {
 
     fn checked_with(lines: &str, output: &str) -> Result<Checked, String> {
         let lines: Vec<Vec<u8>> = lines.lines().map(|line| line.as_bytes().to_vec()).collect();
-        check(&Group::bench(), &lines, output.as_bytes())
+        check(&Group::bench(), Host::Plain, &lines, output.as_bytes())
     }
 
     /// The lines with other readings in their first.
@@ -259,6 +296,7 @@ mod tests {
         let expected = Checked {
             decided_periods: 2,
             searched_periods: 2,
+            ..Checked::default()
         };
         assert_eq!(checked(RIGHT), Ok(expected));
     }
@@ -317,7 +355,7 @@ mod tests {
         ];
         for word in words {
             let answer = checked_with(&lines_from(word), RIGHT).unwrap_err();
-            assert!(answer.contains("a tick"), "{word} {answer}");
+            assert!(answer.contains(&format!("T 1 {word}")), "{word} {answer}");
         }
     }
 
@@ -325,5 +363,118 @@ mod tests {
     fn a_row_never_handed_for_its_period_is_refused() {
         // 8 was handed to nobody in period 1: Update(0, 8) is 4.
         assert!(refused(" 50\n", " 4\n").contains("period 1: no choice"));
+    }
+
+    // With power cycles.
+
+    fn checked_storing(lines: &str) -> Result<Checked, String> {
+        let (lines, output) = crate::words::on_the_bench_group(lines);
+        check(&Group::bench(), Host::Storing, &lines, &output)
+    }
+
+    /// Period 1 is decided by boxes 1 and 2 with 50, all of it stored.
+    const STORED: &str = "T 1 100\nS 1\nT 2 102\nS 2\nD 2 1\nS 2\nD 1 5\nS 1\n";
+
+    #[test]
+    fn commands_that_are_not_stored_do_not_count() {
+        let decided = |lines: &str| checked_storing(lines).unwrap().decided_periods;
+        assert_eq!(decided(STORED), 1);
+        let unstored = STORED.strip_suffix("S 1\n").unwrap();
+        assert_eq!(decided(unstored), 0);
+        // A tick, a return, an ignored give-up come before it is stored.
+        for between in ["T 1 5", "R 1 0", "G 1"] {
+            assert_eq!(decided(&format!("{unstored}{between}\nS 1\n")), 0);
+        }
+        // Another box, a refused return: it is still that step's.
+        let between = format!("{unstored}T 3 5\nR 1 10001\nS 1\n");
+        assert_eq!(decided(&between), 1);
+    }
+
+    /// A decision that was undone is made again, with other rows.
+    #[test]
+    fn a_decision_that_never_left_binds_nobody() {
+        let lines = "S 1\nT 1 100\nS 1\nT 2 7\nD 2 2\nS 2\nR 1 0\nD 1 5\nR 1 0\n\
+                     G 2\nS 2\nT 3 300\nG 3\nS 3\nD 2 13\nS 2\nD 3 15\nS 3\nD 2 17\nS 2\n";
+        let (script, output) = crate::words::on_the_bench_group(lines);
+        let printed = String::from_utf8(output.clone()).unwrap();
+        assert!(printed.contains("\n8 1 ok 1 0 0 1 0 8 50\n"), "{printed}");
+        assert!(printed.contains("\n19 2 ok 1 1 1 1 0 19 50\n"), "{printed}");
+        let checked = check(&Group::bench(), Host::Storing, &script, &output);
+        assert_eq!(checked.unwrap().decided_periods, 1);
+        // Another command in the line that does not count is of no account.
+        let other = printed.replace("0 1 0 8 50", "0 1 0 8 51");
+        assert!(check(&Group::bench(), Host::Storing, &script, other.as_bytes()).is_ok());
+        let other = printed.replace("1 1 0 19 50", "1 1 0 19 51");
+        assert!(check(&Group::bench(), Host::Storing, &script, other.as_bytes()).is_err());
+    }
+
+    #[test]
+    fn rows_of_steps_that_a_return_undoes_do_not_count() {
+        // Box 1 ticks with 100, which is undone, and then with 60.
+        let lines = "S 1\nT 1 100\nR 1 0\nT 1 60\nS 1\nT 2 -\nD 2 4\nS 2\nD 1 7\nS 1\n";
+        let (script, output) = crate::words::on_the_bench_group(lines);
+        let printed = String::from_utf8(output).unwrap();
+        assert!(printed.contains(" 30\n"), "{printed}");
+        let answer = |command: &str| {
+            let output = printed.replace(" 30\n", command);
+            check(&Group::bench(), Host::Storing, &script, output.as_bytes())
+        };
+        assert_eq!(answer(" 30\n").unwrap().searched_periods, 1);
+        assert!(answer(" 50\n").unwrap_err().contains("period 1: no choice"));
+    }
+
+    /// Box 1 misses period 2 and decides period 3 from what that led to.
+    #[test]
+    fn missed_periods_count_as_ticks_with_no_reading() {
+        let lines = "R 1 1\nT 1 9\nS 1\nT 2 300\nT 2 8\nD 2 10\nS 2\nD 1 14\nS 1\n";
+        let expected = Checked {
+            decided_periods: 2,
+            searched_periods: 2,
+            missed_somewhere: 0,
+            missed_needed: 1,
+        };
+        assert_eq!(checked_storing(&format!("{STORED}{lines}")), Ok(expected));
+    }
+
+    /// Box 1 misses period 2, which boxes 2 and 3 decide.
+    #[test]
+    fn decided_periods_that_a_box_missed_are_counted() {
+        let lines = "R 1 1\nT 2 300\nG 2\nS 2\nT 3 1\nT 3 2\nG 3\nS 3\n\
+                     D 2 15\nS 2\nD 3 17\nS 3\nD 2 19\nS 2\n";
+        let expected = Checked {
+            decided_periods: 2,
+            searched_periods: 2,
+            missed_somewhere: 1,
+            missed_needed: 0,
+        };
+        assert_eq!(checked_storing(&format!("{STORED}{lines}")), Ok(expected));
+    }
+
+    #[test]
+    fn a_return_with_one_missed_period_shows_the_decided_state() {
+        let (script, output) = crate::words::on_the_bench_group(&format!("{STORED}R 1 1\n"));
+        let printed = String::from_utf8(output).unwrap();
+        assert!(printed.ends_with("9 1 ok 2 0 0 2 50 - -\n"), "{printed}");
+        let other = printed.replace("0 2 50 - -", "0 2 51 - -");
+        let answer = check(&Group::bench(), Host::Storing, &script, other.as_bytes());
+        assert!(answer.unwrap_err().contains("period 1: no choice"));
+    }
+
+    /// Box 2 acknowledges, returns without knowing it, and its Ack leaves all
+    /// the same: the run for which document 02's three conditions, read alone,
+    /// are not enough.
+    #[test]
+    fn an_ack_that_was_undone_leads_to_two_commands() {
+        let lines = "T 1 100\nS 1\nT 2 200\nS 2\nT 3 300\nS 3\nD 2 1\nR 2 0\nD 1 7\nS 1\n\
+                     G 2\nS 2\nG 3\nS 3\nD 2 13\nS 2\nD 3 15\nS 3\nD 2 17\nS 2\n";
+        let answer = checked_storing(lines).unwrap_err();
+        assert_eq!(answer, "period 1: two commands, [50] and [100]");
+    }
+
+    #[test]
+    fn ten_thousand_missed_periods_are_searched() {
+        let lines = "R 1 10000\nS 1\nR 2 10000\nT 1 9\nS 1\nT 2 7\nD 2 12\nS 2\nD 1 15\nS 1\n";
+        let checked = checked_storing(&format!("{STORED}{lines}")).unwrap();
+        assert_eq!((checked.searched_periods, checked.missed_needed), (2, 1));
     }
 }

@@ -1,6 +1,6 @@
 //! Whether the comparison finds faults planted on purpose, and how soon.
 
-use second::fault::{Fault, NAMES, READING_NAMES, ROUNDING_NAMES};
+use second::fault::{Fault, NAMES, READING_NAMES, RECORD_NAMES, ROUNDING_NAMES, STORE_NAMES};
 
 use crate::counts::Counts;
 use crate::run::{library, Programs};
@@ -21,15 +21,22 @@ pub fn table(seed: u64, second: impl Fn() -> Result<Programs, String>) -> Result
     println!("{:<26}{output:>15}{demand3:>15}{own:>17}", "fault");
     let mut all_found = true;
     let names = NAMES.into_iter().chain(READING_NAMES).chain(ROUNDING_NAMES);
+    let names = names.chain(RECORD_NAMES).chain(STORE_NAMES);
     for (name, fault) in names.filter(shows) {
-        let found = look_for(seed, &second()?.with_fault(name))?;
+        let is_safe = keeps_demand3(fault);
+        let found = look_for(seed, &second()?.with_fault(name), is_safe)?;
         // By demand 3, on scripts written while the faulty replicas run, so
         // that the frames which only they send are delivered too.
         let own = match is_of_law(fault) {
             true => "its own law".to_string(),
+            false if is_safe => "kept".to_string(),
             false => shown(run::own_search(seed, name)?),
         };
-        let (output, demand3) = (shown(found.by_output), shown(found.by_demand3));
+        let demand3 = match is_safe {
+            true => "kept".to_string(),
+            false => shown(found.by_demand3),
+        };
+        let output = shown(found.by_output);
         println!("{name:<26}{output:>15}{demand3:>15}{own:>17}");
         all_found &= found.by_output.is_some();
     }
@@ -51,12 +58,25 @@ fn is_of_law(fault: Fault) -> bool {
 }
 
 /// Whether scripts can show a fault: no script has a word for a reading at or
-/// above m.
+/// above m, no record in one is other than a replica's, and none comes near
+/// the last view.
 fn shows((_, fault): &(&str, Fault)) -> bool {
-    *fault != Fault::MarksUnconverted
+    let of_records = RECORD_NAMES.iter().any(|(_, known)| known == fault);
+    let of_missed_periods = [
+        Fault::MissedWithoutUpdate,
+        Fault::MissedOneFewer,
+        Fault::MissedBeyondTaken,
+    ];
+    *fault != Fault::MarksUnconverted && (!of_records || of_missed_periods.contains(fault))
 }
 
-fn look_for(seed: u64, faulty: &Programs) -> Result<Found, String> {
+/// Whether demand 3 holds with a fault all the same: a box may miss one period
+/// more than it may return with.
+fn keeps_demand3(fault: Fault) -> bool {
+    fault == Fault::MissedBeyondTaken
+}
+
+fn look_for(seed: u64, faulty: &Programs, by_output_alone: bool) -> Result<Found, String> {
     let mut found = Found::default();
     for number in 1..=MOST_SCRIPTS {
         let script = generator::script(seed, number, &mut Counts::default());
@@ -66,11 +86,11 @@ fn look_for(seed: u64, faulty: &Programs) -> Result<Found, String> {
         }
         if found.by_demand3.is_none() {
             if let Some(lines) = &script.lines {
-                let checked = demand3::check(&script.group, lines, &output);
+                let checked = demand3::check(&script.group, script.host, lines, &output);
                 found.by_demand3 = checked.is_err().then_some(number);
             }
         }
-        if found.by_output.is_some() && found.by_demand3.is_some() {
+        if found.by_output.is_some() && (by_output_alone || found.by_demand3.is_some()) {
             break;
         }
     }
@@ -82,7 +102,8 @@ fn look_for(seed: u64, faulty: &Programs) -> Result<Found, String> {
 pub fn own_search(seed: u64) -> Option<usize> {
     (1..=MOST_SCRIPTS).find(|&number| {
         let script = generator::script(seed, number, &mut Counts::default());
-        let check = |lines: &Vec<_>| demand3::check(&script.group, lines, &library(&script));
+        let check =
+            |lines: &Vec<_>| demand3::check(&script.group, script.host, lines, &library(&script));
         script
             .lines
             .as_ref()

@@ -1,17 +1,24 @@
 //! The directed generator: periods of several kinds, one after the other,
 //! until the script is full.
 
+mod power;
+
 use crate::counts::Counts;
 use crate::group::Group;
+use crate::played::Host;
 use crate::prng::Prng;
 use crate::writer::Writer;
 
 /// "It reads at most 500 lines"
 const MOST_LINES: i32 = 500;
 
+/// One script of so many has power cycles.
+const ONE_STORING: usize = 3;
+
 pub struct Script {
     pub is_rig: bool,
     pub group: Group,
+    pub host: Host,
     /// None if the first line makes no group.
     pub lines: Option<Vec<Vec<u8>>>,
     /// The whole input.
@@ -21,6 +28,9 @@ pub struct Script {
 /// Script `number` of a seed.
 pub fn script(seed: u64, number: usize, counts: &mut Counts) -> Script {
     let prng = &mut Prng::of_script(seed, number);
+    if number.is_multiple_of(ONE_STORING) {
+        return storing_script(prng, counts);
+    }
     let is_rig = !prng.chance(20);
     let group = match is_rig {
         true => Group::random(prng),
@@ -33,27 +43,50 @@ pub fn script(seed: u64, number: usize, counts: &mut Counts) -> Script {
         true => counts.rig_scripts += 1,
         false => counts.bench_scripts += 1,
     }
-    let lines = written_lines(prng, group, counts);
+    let lines = written_lines(prng, group, Host::Plain, counts);
     let first_line = is_rig.then(|| group.first_line());
     Script {
         is_rig,
         group,
+        host: Host::Plain,
         input: joined(prng, first_line, &lines),
         lines: Some(lines),
     }
 }
 
+/// A rig script with records that are stored and boxes that return.
+fn storing_script(prng: &mut Prng, counts: &mut Counts) -> Script {
+    counts.rig_scripts += 1;
+    counts.storing_scripts += 1;
+    let mut group = Group::random(prng);
+    // Most groups are small, for the sake of more periods in a script.
+    group.boxes = prng.pick(&[3, 3, 3, 4, 4, 5, 5, 6, 7, 8, 9]);
+    let lines = written_lines(prng, group, Host::Storing, counts);
+    Script {
+        is_rig: true,
+        group,
+        host: Host::Storing,
+        input: joined(prng, Some(group.first_line()), &lines),
+        lines: Some(lines),
+    }
+}
+
 /// Periods until the script is full; now and then some lines too many.
-fn written_lines(prng: &mut Prng, group: Group, counts: &mut Counts) -> Vec<Vec<u8>> {
+fn written_lines(prng: &mut Prng, group: Group, host: Host, counts: &mut Counts) -> Vec<Vec<u8>> {
     let too_many = prng.chance(5);
+    let least = match host {
+        Host::Plain => 200,
+        Host::Storing => 400,
+    };
     let limit = match too_many {
         true => MOST_LINES,
-        false => prng.between(200, MOST_LINES),
+        false => prng.between(least, MOST_LINES),
     };
-    let mut course = Course::new(prng, counts, group, limit as usize);
+    let mut course = Course::new(prng, counts, group, host, limit as usize);
     while !course.writer.is_full() {
         course.period();
     }
+    course.writer.end();
     let mut lines = course.writer.lines;
     counts.lines += lines.len();
     if too_many {
@@ -88,6 +121,7 @@ fn spoiled_script(prng: &mut Prng, group: Group, counts: &mut Counts) -> Script 
     Script {
         is_rig: true,
         group,
+        host: Host::Plain,
         lines: None,
         input,
     }
@@ -109,10 +143,13 @@ struct Habits {
     disorder: usize,
     /// Of a hundred periods, those in which a parting of the boxes begins.
     parting: usize,
+    /// Of a hundred periods with power cycles, those in which a majority
+    /// loses its power.
+    blackout: usize,
 }
 
 impl Habits {
-    fn random(prng: &mut Prng) -> Habits {
+    fn random(prng: &mut Prng, host: Host) -> Habits {
         Habits {
             orderly: prng.pick(&[0, 1, 3, 10]),
             lossy: prng.pick(&[0, 1, 3]),
@@ -124,6 +161,10 @@ impl Habits {
             miss: prng.pick(&[0, 0, 5, 15]),
             disorder: prng.pick(&[0, 10, 40, 100]),
             parting: prng.pick(&[0, 0, 10, 30]),
+            blackout: match host {
+                Host::Plain => 0,
+                Host::Storing => prng.pick(&[0, 0, 5, 15]),
+            },
         }
     }
 }
@@ -131,6 +172,7 @@ impl Habits {
 /// The course of a script.
 struct Course<'a> {
     writer: Writer<'a>,
+    host: Host,
     habits: Habits,
     /// So many periods the box at each place still stays away.
     away: Vec<u32>,
@@ -140,11 +182,18 @@ struct Course<'a> {
 }
 
 impl<'a> Course<'a> {
-    fn new(prng: &'a mut Prng, counts: &'a mut Counts, group: Group, limit: usize) -> Self {
-        let habits = Habits::random(prng);
+    fn new(
+        prng: &'a mut Prng,
+        counts: &'a mut Counts,
+        group: Group,
+        host: Host,
+        limit: usize,
+    ) -> Self {
+        let habits = Habits::random(prng, host);
         let boxes = usize::from(group.boxes);
         Course {
-            writer: Writer::new(prng, counts, group, limit),
+            writer: Writer::new(prng, counts, group, host, limit),
+            host,
             habits,
             away: vec![0; boxes],
             sides: vec![false; boxes],
@@ -157,14 +206,23 @@ impl<'a> Course<'a> {
         if self.chance(80) {
             self.writer.pending.clear();
         }
-        self.tick_all();
+        match self.host {
+            Host::Plain => self.tick_all(),
+            Host::Storing => self.tick_and_restore(),
+        }
         match self.kind_of_period() {
+            _ if self.host == Host::Storing && self.chance(15) => self.acks_survive(),
             0 => self.orderly(),
             1 => self.lossy(),
             2 => self.view_change(),
             3 => self.coordinator_stops(),
             4 => self.second_lap(),
             _ => self.chaos(),
+        }
+        // Else few periods would be decided: half of the lines store records,
+        // and many steps are undone.
+        if self.host == Host::Storing && self.chance(80) {
+            self.converge(0);
         }
     }
 
@@ -212,6 +270,8 @@ impl<'a> Course<'a> {
         if remain > self.writer.majority() && !self.writer.stopped[place] && self.chance(25) {
             self.writer.stopped[place] = true;
             self.writer.counts.stopped_boxes += 1;
+        } else if self.host == Host::Storing && self.chance(60) {
+            self.writer.cut_power(place);
         } else {
             self.away[place] = 1 + self.writer.prng.below(4) as u32;
         }
@@ -226,7 +286,7 @@ impl<'a> Course<'a> {
             }
             self.writer.tick(place);
             let makes_up = self.chance(70);
-            while makes_up && self.writer.replicas[place].period < due && !self.writer.is_full() {
+            while makes_up && self.is_behind(place, due) && !self.writer.is_full() {
                 self.writer.counts.made_up_ticks += 1;
                 self.writer.tick(place);
             }
@@ -234,6 +294,12 @@ impl<'a> Course<'a> {
                 self.pump_some(2, 0);
             }
         }
+    }
+
+    /// Whether the box can make up for periods by ticks.
+    fn is_behind(&self, place: usize, due: u32) -> bool {
+        let period = self.writer.replicas[place].period;
+        period < due && !self.is_away(place) && !self.writer.is_far(place)
     }
 
     /// Delivers what is on its way, and what that brings about, until
@@ -468,7 +534,7 @@ impl<'a> Course<'a> {
     }
 
     fn is_away(&self, place: usize) -> bool {
-        self.away[place] > 0 || self.writer.stopped[place]
+        self.away[place] > 0 || self.writer.is_out(place)
     }
 
     fn chance(&mut self, percent: usize) -> bool {
@@ -507,14 +573,25 @@ mod tests {
             counts.refused[9],
             counts.refused[10],
         ];
+        let power = [
+            counts.storing_scripts,
+            counts.stores,
+            counts.steps_lost,
+            counts.frames_never_left,
+            counts.commands_never_left,
+            counts.blackouts,
+            counts.refused[16],
+        ];
         let readings = [
             counts.handed_counts,
             counts.handed_missing,
             counts.handed_singles,
             counts.missing_singles,
         ];
-        let mut cases = cases.iter().chain(&readings).chain(&counts.single_classes);
-        assert!(cases.all(|&count| count >= 10), "{counts}");
+        let cases = cases.iter().chain(&readings).chain(&counts.single_classes);
+        let mut cases = cases.chain(&power).chain(&counts.returns);
+        // Returns with 10,000 missed periods take time, so there are few.
+        assert!(cases.all(|&count| count >= 5), "{counts}");
     }
 
     #[test]
@@ -526,6 +603,21 @@ mod tests {
             met[usize::from(script.is_rig)] |= counts.handed_singles > 0;
         }
         assert_eq!(met, [false, true]);
+    }
+
+    /// One script in three, and groups of every size.
+    #[test]
+    fn scripts_with_power_cycles_are_of_every_group_size() {
+        let mut met = [0; 10];
+        for number in 1..=150 {
+            let script = script(6, number, &mut Counts::default());
+            assert_eq!(script.host == Host::Storing, number % 3 == 0);
+            if script.host == Host::Storing {
+                assert!(script.is_rig);
+                met[usize::from(script.group.boxes)] += 1;
+            }
+        }
+        assert!(met[3..].iter().all(|&count| count > 0), "{met:?}");
     }
 
     #[test]

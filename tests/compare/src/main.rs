@@ -8,12 +8,17 @@ mod demand3;
 mod faults;
 mod generator;
 mod group;
+mod hosts;
 mod malformed;
 mod pages;
+mod past;
+mod played;
 mod prng;
 mod run;
 mod scripts;
 mod single_bits;
+mod station;
+mod words;
 mod writer;
 
 use std::io::{self, BufWriter, Write};
@@ -26,12 +31,13 @@ const USAGE: &str = "usage:
   compare scripts COUNT SEED BENCH RIG [SECOND_DIR]
   compare pages COUNT SEED PAGE
   compare faults SEED [SECOND_DIR]
+  compare hosts SEED [FOLDER]
   compare second bench|rig
   compare search SEED
 
 BENCH, RIG and PAGE are the first implementation's programs. SECOND_DIR is a folder
-with the second's programs; without it this program stands in for them. The
-last two are for this program's own use, with a fault planted.";
+with the second's programs; without it this program stands in for them. FOLDER
+gets the scripts that `hosts` finds. The last two are for this program's own use, with a fault planted.";
 
 fn main() -> ExitCode {
     let words: Vec<String> = env::args().skip(1).collect();
@@ -59,6 +65,9 @@ fn run(words: &[&str]) -> Result<(), String> {
         ["faults", seed, folder] => {
             let second = || Ok(Programs::within(folder));
             found(faults::table(number(seed)?, second)?)
+        }
+        ["hosts", seed, folder @ ..] if folder.len() < 2 => {
+            hosts::search(number(seed)?, folder.first().copied())
         }
         ["second", program] => second_program(program),
         ["search", seed] => search(number(seed)?),

@@ -12,6 +12,8 @@ pub struct Place<'a> {
     pub line: usize,
     /// Earlier lines that sent no frame.
     pub unsent: &'a [usize],
+    /// Numbers of boxes that have stored no record.
+    pub without_record: &'a [usize],
 }
 
 /// Words that resemble a single's and are no reading in any script.
@@ -54,7 +56,7 @@ pub fn line(prng: &mut Prng, place: &Place) -> Vec<u8> {
     let good = [tick(&number), format!("G {number}")];
     let good = &good[prng.below(2)];
     let later = place.line + 1 + prng.below(60);
-    let text = match prng.below(26) {
+    let text = match prng.below(32) {
         0 => tick(&format!("0{number}")),
         1 => tick(&format!("+{number}")),
         2 => tick("0"),
@@ -85,9 +87,52 @@ pub fn line(prng: &mut Prng, place: &Place) -> Vec<u8> {
         22 => with_last(&tick(&number), no_single(prng, place.takes_singles)),
         23 => with_first(&tick(&number), no_single(prng, place.takes_singles)),
         24 if !place.unsent.is_empty() => format!("D {number} {}", prng.pick(place.unsent)),
+        25..=27 => no_store(prng, place, &number),
+        28..=30 => no_return(prng, place, &number),
         _ => return [good.as_bytes(), &[prng.pick(&[0x80, 0xB1, 0xFF])]].concat(),
     };
     text.into_bytes()
+}
+
+/// A line that resembles one by which a record is stored; on the bench it may
+/// be such a one.
+fn no_store(prng: &mut Prng, place: &Place, number: &str) -> String {
+    let above = place.boxes + 1;
+    match prng.below(8) {
+        0 => format!("S {above}"),
+        1 => format!("S 0{number}"),
+        2 => format!("S {number} "),
+        3 => format!("S {number} {number}"),
+        4 => format!("s {number}"),
+        5 if !place.takes_singles => format!("S {number}"),
+        _ => prng
+            .pick(&[
+                "S", "S ", "S 0", "S -1", "S +1", "S -", "S  1", " S 1", "S 1\r",
+            ])
+            .to_string(),
+    }
+}
+
+/// The same of a return, which also is malformed where no record is stored.
+fn no_return(prng: &mut Prng, place: &Place, number: &str) -> String {
+    let above = place.boxes + 1;
+    match prng.below(8) {
+        0 => format!("R {above} 0"),
+        1 => format!("R {number}"),
+        2 => format!("R {number} 0 0"),
+        3 | 4 if !place.without_record.is_empty() => {
+            let missed = prng.pick(&["0", "1", "10001", "4294967295"]);
+            format!("R {} {missed}", prng.pick(place.without_record))
+        }
+        5 if !place.takes_singles => format!("R {number} {}", prng.pick(&["0", "1"])),
+        _ => {
+            let words = [
+                "", "-", "-1", "-0", "+1", "01", "00", "x", "0x1", "1.0", "0 ", "0\r",
+            ];
+            let beyond = ["4294967296", "99999999999999999999", "f00000000"];
+            format!("R {number} {}", prng.pick(&[&words[..], &beyond].concat()))
+        }
+    }
 }
 
 /// A word with something of a single that is malformed.
@@ -135,6 +180,7 @@ mod tests {
                 takes_singles,
                 line: 2,
                 unsent: &[1],
+                without_record: &[1, 3],
             };
             for _ in 0..2_000 {
                 let script = [b"T 2 5\n".to_vec(), line(&mut prng, &place)].concat();

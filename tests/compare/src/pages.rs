@@ -98,13 +98,15 @@ fn damaged(text: &[u8], prng: &mut Prng) -> Vec<u8> {
 
 /// Words that a line may have in place of one of its own: in form or range they
 /// are at an edge, or beyond it.
-const WORDS: [&str; 24] = [
+const WORDS: [&str; 26] = [
     "-",
     "ok",
     "ignored",
     "bad",
     "r12",
     "r13",
+    "r15",
+    "r16",
     "r0",
     "0",
     "1",

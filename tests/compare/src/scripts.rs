@@ -6,6 +6,7 @@ use std::{env, fmt, fs};
 use crate::counts::Counts;
 use crate::demand3::{self, Checked};
 use crate::generator::{self, Script};
+use crate::played;
 use crate::run::{library, Programs};
 
 /// What is compared: the first implementation with the second, which is run
@@ -69,11 +70,15 @@ impl Tally {
         if bad_rows(output) != malformed {
             return Err(format!("not {malformed} malformed lines, as counted"));
         }
-        let checked = demand3::check(&script.group, lines, output);
+        let played = played::played(lines, output)?;
+        played::frames_left(script.host, &played)?;
+        let checked = demand3::check(&script.group, script.host, lines, output);
         let checked = checked.map_err(|what| format!("demand 3: {what}"))?;
         self.scripts += 1;
         self.periods.decided_periods += checked.decided_periods;
         self.periods.searched_periods += checked.searched_periods;
+        self.periods.missed_somewhere += checked.missed_somewhere;
+        self.periods.missed_needed += checked.missed_needed;
         Ok(())
     }
 }
@@ -84,6 +89,11 @@ impl fmt::Display for Tally {
             ("demand 3: scripts checked", self.scripts),
             ("  decided periods", self.periods.decided_periods),
             ("  of these, searched", self.periods.searched_periods),
+            (
+                "  with a missed period's row",
+                self.periods.missed_somewhere,
+            ),
+            ("  that need one", self.periods.missed_needed),
         ];
         for (name, count) in named {
             writeln!(out, "{name:<34}{count:>9}")?;
@@ -154,7 +164,10 @@ mod tests {
             let script = generator::script(11, number, &mut Counts::default());
             if let Some(lines) = &script.lines {
                 assert!((200..=503).contains(&lines.len()));
-                demand3::check(&script.group, lines, &library(&script)).unwrap();
+                let output = library(&script);
+                let played = played::played(lines, &output).unwrap();
+                played::frames_left(script.host, &played).unwrap();
+                demand3::check(&script.group, script.host, lines, &output).unwrap();
             }
         }
     }

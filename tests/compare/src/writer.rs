@@ -2,6 +2,8 @@
 //! implementation's replicas at once, so that it knows what was sent, by whom
 //! and what came of it.
 
+mod power;
+
 use std::collections::VecDeque;
 
 use second::frame::{self, Frame, ACK, COMMAND_AREA, DECIDE, ESTIMATE, FRAME_AREA};
@@ -12,8 +14,10 @@ use second::replica::{coordinator, majority, Answer, Areas, Estimate, Heard, Rep
 use crate::counts::Counts;
 use crate::group::Group;
 use crate::malformed;
+use crate::played::Host;
 use crate::prng::Prng;
 use crate::single_bits;
+use crate::station::{Station, Waiting};
 
 /// How often, of a hundred lines, something out of order follows.
 #[derive(Clone, Copy, Default)]
@@ -22,6 +26,8 @@ pub struct Disturbances {
     pub doubled: usize,
     pub late: usize,
     pub misdirected: usize,
+    /// A box loses its power, and returns at once or later.
+    pub power_cuts: usize,
 }
 
 /// How a script's readings are drawn.
@@ -37,12 +43,17 @@ pub struct Rows {
     pub singles: usize,
 }
 
+/// So many periods from the others are far.
+const FAR: u32 = 100;
+
 struct Sent {
     line: usize,
     frame: Frame,
     bytes: Vec<u8>,
     /// The places that it was delivered to.
     delivered: Vec<usize>,
+    /// Whether it may be delivered.
+    has_left: bool,
 }
 
 /// A reading as a script has it.
@@ -64,7 +75,13 @@ pub struct Writer<'a> {
     pub pending: VecDeque<(usize, usize)>,
     /// "A stopped box has no further entry."
     pub stopped: Vec<bool>,
+    pub stations: Vec<Station>,
     group: Group,
+    host: Host,
+    /// Of a hundred steps, those whose record is stored at once.
+    stored_at_once: usize,
+    /// Places whose record is stored later, if at all.
+    to_store: Vec<usize>,
     limit: usize,
     disturbances: Disturbances,
     rows: Rows,
@@ -76,7 +93,13 @@ pub struct Writer<'a> {
 }
 
 impl<'a> Writer<'a> {
-    pub fn new(prng: &'a mut Prng, counts: &'a mut Counts, group: Group, limit: usize) -> Self {
+    pub fn new(
+        prng: &'a mut Prng,
+        counts: &'a mut Counts,
+        group: Group,
+        host: Host,
+        limit: usize,
+    ) -> Self {
         let replicas = (1..=group.boxes)
             .map(|own| Replica::new(group.boxes, own, group.settings).expect("a good group"))
             .collect();
@@ -86,6 +109,14 @@ impl<'a> Writer<'a> {
             doubled: rare(prng) * 2,
             late: rare(prng) * 2,
             misdirected: rare(prng),
+            power_cuts: match host {
+                Host::Plain => 0,
+                Host::Storing => prng.pick(&[1, 2, 4, 8]),
+            },
+        };
+        let stored_at_once = match host {
+            Host::Plain => 0,
+            Host::Storing => prng.pick(&[80, 90, 97, 100]),
         };
         let rows = Rows {
             variety: prng.pick(&[2, 2, 3, 3, 4, group.boxes.into()]),
@@ -103,7 +134,11 @@ impl<'a> Writer<'a> {
             lines: Vec::new(),
             pending: VecDeque::new(),
             stopped: vec![false; group.boxes.into()],
+            stations: vec![Station::default(); group.boxes.into()],
             group,
+            host,
+            stored_at_once,
+            to_store: Vec::new(),
             limit,
             disturbances,
             rows,
@@ -125,8 +160,24 @@ impl<'a> Writer<'a> {
         places
     }
 
+    /// The newest period of the group. A box far ahead of most has returned
+    /// with too many missed periods, and does not count.
     pub fn newest_period(&self) -> u32 {
-        self.replicas.iter().map(|r| r.period).max().unwrap_or(0)
+        let mut periods: Vec<u32> = self.replicas.iter().map(|r| r.period).collect();
+        periods.sort_unstable();
+        let usual = periods[periods.len() / 2];
+        periods.retain(|&period| period <= usual + FAR);
+        periods.last().copied().unwrap_or(usual)
+    }
+
+    /// Whether a box is so far from the others that no ticks make up for it.
+    pub fn is_far(&self, place: usize) -> bool {
+        self.replicas[place].period.abs_diff(self.newest_period()) > FAR
+    }
+
+    /// Whether nothing can occur at a box now.
+    pub fn is_out(&self, place: usize) -> bool {
+        self.stopped[place] || self.stations[place].is_down
     }
 
     pub fn majority(&self) -> usize {
@@ -160,10 +211,10 @@ impl<'a> Writer<'a> {
     }
 
     // The lines of a script. Each does nothing once the script is full,
-    // and nothing at a stopped box.
+    // and nothing at a box that has stopped or has no power.
 
     pub fn tick(&mut self, place: usize) {
-        if self.is_full() || self.stopped[place] {
+        if self.is_full() || self.is_out(place) {
             return;
         }
         let row = self.row_for(self.replicas[place].period);
@@ -174,26 +225,26 @@ impl<'a> Writer<'a> {
             text += &format!(" {}", word(reading));
         }
         self.run(place, text, |replica, areas| replica.tick(&row, areas));
-        self.disturb();
+        self.disturb(place);
     }
 
     pub fn give_up(&mut self, place: usize) {
-        if self.is_full() || self.stopped[place] {
+        if self.is_full() || self.is_out(place) {
             return;
         }
         self.counts.give_ups += 1;
         self.run(place, format!("G {}", place + 1), Replica::give_up);
-        self.disturb();
+        self.disturb(place);
     }
 
     pub fn deliver(&mut self, sent: usize, place: usize) {
         self.deliver_alone(sent, place);
-        self.disturb();
+        self.disturb(place);
     }
 
     /// A delivery that no disturbance follows, for disturbances themselves.
     fn deliver_alone(&mut self, sent: usize, place: usize) {
-        if self.is_full() || self.stopped[place] {
+        if self.is_full() || self.is_out(place) {
             return;
         }
         self.count_delivery(sent, place);
@@ -217,6 +268,7 @@ impl<'a> Writer<'a> {
             takes_singles: self.group.takes_singles,
             line: self.lines.len() + 1,
             unsent: &self.unsent,
+            without_record: &self.without_record(),
         };
         let line = malformed::line(self.prng, &place);
         self.counts.malformed += 1;
@@ -240,15 +292,26 @@ impl<'a> Writer<'a> {
         self.replicas[place] = replica;
         self.lines.push(text.into_bytes());
         self.count_step(place, &step);
-        match step.frame_length {
-            0 => self.unsent.push(self.lines.len()),
-            length => self.send(&frame[..length]),
+        let frame = match step.frame_length {
+            0 => {
+                self.unsent.push(self.lines.len());
+                None
+            }
+            length => Some(self.keep(&frame[..length])),
+        };
+        let waiting = Waiting {
+            frame,
+            decided: (step.command_length > 0).then_some(replica.period),
+        };
+        match self.host {
+            Host::Plain => self.leave(waiting),
+            Host::Storing => self.hold(place, waiting, step.answer),
         }
         step
     }
 
-    /// Keeps a sent frame and puts it on its way to those it is meant for.
-    fn send(&mut self, bytes: &[u8]) {
+    /// Keeps a frame that was made.
+    fn keep(&mut self, bytes: &[u8]) -> usize {
         let settings = &self.group.settings;
         let frame = frame::read(settings.n, settings.m, bytes).expect("a replica's own frame");
         self.sent.push(Sent {
@@ -256,8 +319,19 @@ impl<'a> Writer<'a> {
             frame,
             bytes: bytes.to_vec(),
             delivered: Vec::new(),
+            has_left: false,
         });
-        let sent = self.sent.len() - 1;
+        self.sent.len() - 1
+    }
+
+    /// What a step made leaves: its frame is on its way to those it is meant
+    /// for, and its command counts.
+    fn leave(&mut self, waiting: Waiting) {
+        if let Some(period) = waiting.decided {
+            self.count_decided(period);
+        }
+        let Some(sent) = waiting.frame else { return };
+        self.sent[sent].has_left = true;
         for place in self.places() {
             if self.is_meant_for(sent, place) {
                 self.pending.push_back((sent, place));
@@ -323,8 +397,11 @@ impl<'a> Writer<'a> {
     // Lines out of order.
 
     /// Now and then, one line more that is out of order.
-    fn disturb(&mut self) {
+    fn disturb(&mut self, place: usize) {
         let disturbances = self.disturbances;
+        if self.host == Host::Storing {
+            self.let_time_pass(place);
+        }
         if self.prng.chance(disturbances.malformed) {
             self.malformed();
         }
@@ -356,7 +433,8 @@ impl<'a> Writer<'a> {
             };
             let sent = self.sent.len() - 1 - self.prng.below(newest);
             let place = self.prng.below(self.replicas.len());
-            if !self.stopped[place] && wanted(self, sent, place) {
+            let can_arrive = self.sent[sent].has_left && !self.is_out(place);
+            if can_arrive && wanted(self, sent, place) {
                 return self.deliver_alone(sent, place);
             }
         }
@@ -394,11 +472,14 @@ impl<'a> Writer<'a> {
         let replica = &self.replicas[place];
         self.counts.decisions += 1;
         self.counts.decisions_above_view_0 += usize::from(replica.view > 0);
-        if !self.decided.contains(&replica.period) {
-            let missed = replica.period > 1 && !self.decided.contains(&(replica.period - 1));
+    }
+
+    fn count_decided(&mut self, period: u32) {
+        if !self.decided.contains(&period) {
+            let missed = period > 1 && !self.decided.contains(&(period - 1));
             self.counts.decided_periods += 1;
             self.counts.decided_after_missed += usize::from(missed);
-            self.decided.push(replica.period);
+            self.decided.push(period);
         }
     }
 

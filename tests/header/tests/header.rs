@@ -61,14 +61,14 @@ fn is_found(name: &str, old: &str, new: &str) {
 #[test]
 fn the_header_declares_what_the_crate_exports() {
     let exports = exports();
-    assert_eq!(exports.len(), 8);
+    assert_eq!(exports.len(), 14);
     let declared = declared(&header()).expect("prototypes");
     assert_eq!(
         differences(&exports, &declared.functions),
         Vec::<String>::new()
     );
     assert_eq!(wrapper_differences(&declared), Vec::<String>::new());
-    assert_eq!(declared.wrappers.len(), 2);
+    assert_eq!(declared.wrappers.len(), 3);
 }
 
 #[test]
@@ -77,8 +77,9 @@ fn the_declarations_for_rust_are_what_the_crate_exports() {
     assert_eq!(differences(&exports(), &imports), Vec::<String>::new());
 }
 
-/// Where each constant stands in the crates; `#` is its number.
-const CONSTANTS: [(&str, &str, &str); 21] = [
+/// Where each constant stands in the crates; `#` is its number. The kind of a
+/// missing reading stands nowhere: it is any but the two others.
+const CONSTANTS: [(&str, &str, &str); 36] = [
     ("WINDER_VERSION", "winder/src/version.rt", "{\n    #\n}"),
     ("WINDER_STATES_MAX", "frame/src/lib.rt", "if # < n {"),
     ("WINDER_READINGS_MAX", "frame/src/lib.rt", "m <= #\n"),
@@ -103,12 +104,51 @@ const CONSTANTS: [(&str, &str, &str); 21] = [
         "pages/src/entries.rt",
         "WORDS: usize = #;",
     ),
-    ("WINDER_PAGE_LINES", "pages/src/lines.rt", "MOST: usize = #;"),
+    (
+        "WINDER_PAGE_LINES",
+        "pages/src/lines.rt",
+        "MOST: usize = #;",
+    ),
     ("WINDER_PAGE_AREA", "pages/src/lines.rt", "PAGE: usize = #;"),
+    (
+        "WINDER_RECORD",
+        "records/src/lengths.rt",
+        "RECORD: usize = #;",
+    ),
+    (
+        "WINDER_MISSED_MAX",
+        "records/src/returning.rt",
+        "MOST_MISSED: u32 = #;",
+    ),
+    (
+        "WINDER_IGNORED",
+        "winder/src/answers.rt",
+        "Answer::Ignored => #,",
+    ),
+    (
+        "WINDER_MISSING",
+        "transmitters/src/numbers.rt",
+        "    }\n    Reading::Missing\n}",
+    ),
+    (
+        "WINDER_COUNT",
+        "transmitters/src/numbers.rt",
+        "if kind == # {\n        return Reading::Count(",
+    ),
+    (
+        "WINDER_SINGLE",
+        "transmitters/src/numbers.rt",
+        "if kind == # {\n        return Reading::Newtons(",
+    ),
     ("WINDER_PROPOSE", "frame/src/kinds.rt", "PROPOSE: u8 = #;"),
     ("WINDER_ACK", "frame/src/kinds.rt", "ACK: u8 = #;"),
     ("WINDER_DECIDE", "frame/src/kinds.rt", "DECIDE: u8 = #;"),
     ("WINDER_ESTIMATE", "frame/src/kinds.rt", "ESTIMATE: u8 = #;"),
+    (
+        "WINDER_REFUSED_GROUP",
+        "replica/src/refusals.rt",
+        "if bad_group(boxes, own) {\n        return #;",
+    ),
     (
         "WINDER_REFUSED_SIZES",
         "law/src/lib.rt",
@@ -130,9 +170,39 @@ const CONSTANTS: [(&str, &str, &str); 21] = [
         "Answer::Area => #,",
     ),
     (
+        "WINDER_REFUSED_LAST_PERIOD",
+        "replica/src/refusals.rt",
+        "<= held.period {\n        return #;",
+    ),
+    (
+        "WINDER_REFUSED_MARK",
+        "replica/src/refusals.rt",
+        "if beyond {\n        return #;",
+    ),
+    (
         "WINDER_REFUSED_FRAME",
         "frame/src/lib.rt",
         "Answer::Malformed => #,",
+    ),
+    (
+        "WINDER_REFUSED_SENDER",
+        "replica/src/arrivals.rt",
+        "if sender {\n        return refused_rule(held, #);",
+    ),
+    (
+        "WINDER_REFUSED_PLACE",
+        "replica/src/arrivals.rt",
+        "if place {\n        return refused_rule(held, #);",
+    ),
+    (
+        "WINDER_REFUSED_BASE",
+        "replica/src/arrivals.rt",
+        "if base {\n        return refused_rule(held, #);",
+    ),
+    (
+        "WINDER_REFUSED_LAST_VIEW",
+        "replica/src/refusals.rt",
+        "if last {\n        return #;",
     ),
     (
         "WINDER_REFUSED_PAGE_AREA",
@@ -143,6 +213,16 @@ const CONSTANTS: [(&str, &str, &str); 21] = [
         "WINDER_REFUSED_PERIODS",
         "pages/src/lib.rt",
         "Answer::Page => #,",
+    ),
+    (
+        "WINDER_REFUSED_RECORD",
+        "records/src/reading.rt",
+        "Answer::Refused(#),",
+    ),
+    (
+        "WINDER_REFUSED_MISSED",
+        "records/src/returning.rt",
+        "Answer::Refused(#),",
     ),
 ];
 
@@ -163,13 +243,40 @@ fn each_constant_is_what_the_crates_have() {
     }
 }
 
+/// The number of a constant of the header.
+fn constant(name: &str) -> usize {
+    let constants = declared(&header()).expect("constants").constants;
+    let found = constants.iter().find(|constant| constant.name == name);
+    found.expect("a constant of the header").value
+}
+
+#[test]
+fn a_missing_reading_has_a_kind_of_its_own() {
+    let missing = constant("WINDER_MISSING");
+    let others = ["WINDER_COUNT", "WINDER_SINGLE"].map(constant);
+    assert!(!others.contains(&missing));
+}
+
+#[test]
+fn the_constants_for_rust_are_those_of_the_header() {
+    let source = text("include/rust/src/lib.rs");
+    for (name, number) in [
+        ("VERSION", "u32"),
+        ("ENTRY_WORDS", "usize"),
+        ("PAGE_AREA", "usize"),
+        ("RECORD", "usize"),
+        ("MISSED_MAX", "u32"),
+        ("IGNORED", "u32"),
+    ] {
+        let value = constant(&format!("WINDER_{name}"));
+        let place = format!("pub const {name}: {number} = {value};\n");
+        assert!(source.contains(&place), "{place}");
+    }
+}
+
 #[test]
 fn the_version_is_the_same_wherever_it_stands() {
-    let constants = declared(&header()).expect("constants").constants;
-    let version = constants
-        .iter()
-        .find(|constant| constant.name == "WINDER_VERSION");
-    let version = version.expect("the version").value;
+    let version = constant("WINDER_VERSION");
     let (major, minor) = (version / 100, version % 100);
     let places = [
         (
@@ -179,10 +286,6 @@ fn the_version_is_the_same_wherever_it_stands() {
         (
             "include/rust/Cargo.toml",
             format!("version = \"{major}.{minor}.0\"\n"),
-        ),
-        (
-            "include/rust/src/lib.rs",
-            format!("VERSION: u32 = {version};\n"),
         ),
     ];
     for (file, place) in places {
@@ -204,6 +307,14 @@ fn a_wrong_wrapper_is_found() {
         ("values,\n        state);", "state,\n        values);"),
         ("return winder_command(", "return winder_update("),
         ("winder_update_with", "winder_updated_with"),
+        (
+            "start,\n        boxes,\n        own,",
+            "start,\n        own,\n        boxes,",
+        ),
+        (
+            "settings->high,\n        start,",
+            "start,\n        settings->high,",
+        ),
     ] {
         let changed = header().replacen(old, new, 1);
         let found = wrapper_differences(&declared(&changed).expect("wrappers"));
@@ -230,6 +341,18 @@ fn exchanged_parameters_are_found() {
         "int32_t *value, uint32_t bits",
     );
     is_found("winder_convert_single", conversion, exchanged);
+    let (numbers, exchanged) = ("boxes,\n    uint8_t own", "own,\n    uint8_t boxes");
+    is_found("winder_make", numbers, exchanged);
+    let (readings, exchanged) = (
+        "const uint8_t kinds[4],\n    const uint32_t bits[4]",
+        "const uint32_t bits[4],\n    const uint8_t kinds[4]",
+    );
+    is_found("winder_tick", readings, exchanged);
+    let (areas, exchanged) = (
+        "*frame,\n    size_t frame_length,\n    uint8_t *command,\n    size_t command_length",
+        "*command,\n    size_t command_length,\n    uint8_t *frame,\n    size_t frame_length",
+    );
+    is_found("winder_give_up", areas, exchanged);
 }
 
 #[test]
@@ -255,6 +378,8 @@ fn another_size_is_found() {
     );
     is_found("winder_write_frame", "*length", "length[1]");
     is_found("winder_convert_single", "*value", "value[4]");
+    is_found("winder_make", "start[6]", "start[4]");
+    is_found("winder_arrive", "lengths[2]", "*lengths");
 }
 
 #[test]
@@ -265,6 +390,7 @@ fn a_missing_const_is_found() {
         "const uint8_t *bytes",
         "uint8_t *bytes",
     );
+    is_found("winder_return", "const uint8_t *stored", "uint8_t *stored");
 }
 
 #[test]
@@ -272,6 +398,8 @@ fn an_added_const_is_found() {
     is_found("winder_read_frame", "int32_t state", "const int32_t state");
     is_found("winder_write_frame", "uint8_t *area", "const uint8_t *area");
     is_found("winder_convert_single", "int32_t *v", "const int32_t *v");
+    is_found("winder_tick", "uint8_t *replica", "const uint8_t *replica");
+    is_found("winder_record", "uint8_t *area", "const uint8_t *area");
 }
 
 #[test]
@@ -281,6 +409,8 @@ fn another_type_is_found() {
     is_found("winder_update", "uint32_t winder", "int32_t winder");
     is_found("winder_convert_single", "uint8_t winder", "uint32_t winder");
     is_found("winder_convert_single", "uint32_t bits", "int32_t bits");
+    is_found("winder_return", "uint32_t missed", "size_t missed");
+    is_found("winder_make", "uint8_t own", "size_t own");
 }
 
 #[test]

@@ -155,6 +155,59 @@ pub enum Fault {
     AnyOrderRead,
     /// Anything is read behind the last command.
     SpacesBehindRead,
+    /// A record with a box heard above N is taken.
+    HeardAboveTaken,
+    /// A record with a box heard at place 0 is taken.
+    HeardZeroTaken,
+    /// A record whose base view is above its view is taken.
+    BaseViewAboveTaken,
+    /// A record whose base period is above its period is taken.
+    BasePeriodAboveTaken,
+    /// A record whose best estimate has a base view above the view or a base
+    /// period above the period is taken.
+    BestBaseAboveTaken,
+    /// A record with an absent value that is not 0 is taken.
+    AbsentValueTaken,
+    /// A record with a state from n on that is not 0 is taken.
+    UnusedStateTaken,
+    /// A record with a reading from m on that is not 0 is taken.
+    UnusedReadingTaken,
+    /// A record with a mark at or above m is taken.
+    MarksBeyondTaken,
+    /// A record with a best estimate that is absent and not all 0 is taken.
+    AbsentBestTaken,
+    /// A record with a best estimate of box 0, or of a box above N, is taken.
+    BestBoxTaken,
+    /// A record's version is not looked at.
+    VersionUnread,
+    /// A record with mode 2 is taken, as view change.
+    SecondModeTaken,
+    /// A record's settings are not looked at.
+    RecordSettingsUnread,
+    /// A missed tick keeps the state.
+    MissedWithoutUpdate,
+    /// There is one missed tick too few.
+    MissedOneFewer,
+    /// A missed count of 10,001 is taken.
+    MissedBeyondTaken,
+    /// A missed tick that 12 would refuse is left out, and the return goes on.
+    MissedViewSkipped,
+    /// A call that is ignored writes a record, with the next period.
+    IgnoredRecorded,
+    /// Lent areas are looked at before the record: 5 comes before 15.
+    AreasBeforeRecord,
+    /// The missed periods are looked at before the lent area: 16 comes before
+    /// 5.
+    MissedBeforeArea,
+    /// A call writes the record of the replica before the step.
+    RecordBeforeStep,
+    /// The lengths are left alone by a call that is ignored.
+    LengthsLeft,
+    /// A box of the rig returns from its present replica, not from the record
+    /// it stored last.
+    PresentReturned,
+    /// A box of the rig that has stored a record stores no other.
+    SecondStoreDropped,
 }
 
 /// The faults that scripts must find, with their names in the environment
@@ -258,6 +311,43 @@ pub const PAGE_NAMES: [(&str, Fault); 12] = [
     ("spaces_behind_read", Fault::SpacesBehindRead),
 ];
 
+/// The faults that records read and returned must find.
+pub const RECORD_NAMES: [(&str, Fault); 18] = [
+    ("heard_above_taken", Fault::HeardAboveTaken),
+    ("heard_zero_taken", Fault::HeardZeroTaken),
+    ("base_view_above_taken", Fault::BaseViewAboveTaken),
+    ("base_period_above_taken", Fault::BasePeriodAboveTaken),
+    ("best_base_above_taken", Fault::BestBaseAboveTaken),
+    ("absent_value_taken", Fault::AbsentValueTaken),
+    ("unused_state_taken", Fault::UnusedStateTaken),
+    ("unused_reading_taken", Fault::UnusedReadingTaken),
+    ("marks_beyond_taken", Fault::MarksBeyondTaken),
+    ("absent_best_taken", Fault::AbsentBestTaken),
+    ("best_box_taken", Fault::BestBoxTaken),
+    ("version_unread", Fault::VersionUnread),
+    ("second_mode_taken", Fault::SecondModeTaken),
+    ("record_settings_unread", Fault::RecordSettingsUnread),
+    ("missed_without_update", Fault::MissedWithoutUpdate),
+    ("missed_one_fewer", Fault::MissedOneFewer),
+    ("missed_beyond_taken", Fault::MissedBeyondTaken),
+    ("missed_view_skipped", Fault::MissedViewSkipped),
+];
+
+/// The faults that calls on records must find.
+pub const CALL_NAMES: [(&str, Fault); 5] = [
+    ("ignored_recorded", Fault::IgnoredRecorded),
+    ("areas_before_record", Fault::AreasBeforeRecord),
+    ("missed_before_area", Fault::MissedBeforeArea),
+    ("record_before_step", Fault::RecordBeforeStep),
+    ("lengths_left", Fault::LengthsLeft),
+];
+
+/// The faults that scripts with `S` and `R` must find.
+pub const STORE_NAMES: [(&str, Fault); 2] = [
+    ("present_returned", Fault::PresentReturned),
+    ("second_store_dropped", Fault::SecondStoreDropped),
+];
+
 static PLANTED: OnceLock<Fault> = OnceLock::new();
 
 /// Plants the fault that the environment names. Unset or empty: none. A name
@@ -270,6 +360,8 @@ pub fn plant_from_environment() -> Result<(), String> {
     let of_calls = LAW_NAMES.iter().chain(&FRAME_NAMES).chain(&STEP_NAMES);
     let of_requests = READING_NAMES.iter().chain(&ROUNDING_NAMES);
     let of_requests = of_requests.chain(&PAGE_NAMES);
+    let of_requests = of_requests.chain(&RECORD_NAMES).chain(&CALL_NAMES);
+    let of_requests = of_requests.chain(&STORE_NAMES);
     let mut known = NAMES.iter().chain(of_calls).chain(of_requests);
     let (_, fault) = known
         .find(|(known, _)| name == *known)

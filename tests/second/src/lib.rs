@@ -1,20 +1,24 @@
 //! A second, independent implementation of document 01, "A SCRaM replica
 //! group for a winder's tension controller", with change requests L1,
-//! "Readings as the transmitters send them", L2, "Rounding that creeps", and
-//! L3, "The shift page", of document 02.
+//! "Readings as the transmitters send them", L2, "Rounding that creeps", L3,
+//! "The shift page", and L4, "Coming back after a power cycle", of document
+//! 02.
 //!
 //! Comments in quotation marks are document 01's own words, or document 02's
 //! where they name it; "readings" and "changes" name the papers that settle
-//! where document 01 and document 02 allow two readings.
+//! where document 01 and document 02 allow two readings, and "layout" the one
+//! that lays down the record byte by byte.
 
 #![forbid(unsafe_code)]
 
+pub mod calls;
 pub mod fault;
 pub mod frame;
 pub mod law;
 pub mod page;
 pub mod printed;
 pub mod reading;
+pub mod record;
 pub mod refusal;
 pub mod replica;
 pub mod script;

@@ -136,10 +136,12 @@ mod tests {
             "bad\n",
             "r1\n",
             "r12\n",
+            "r16\n",
             "1 bad\n500 bad\n",
             "no who answer k v vb kb x frame command\n",
             "no who answer k v vb kb x frame command\n1 1 ignored 0 0 0 0 0 - -\n",
             "1 1 r1 0 0 0 0 0 - -\n1 1 r12 0 0 0 0 0 - -",
+            "1 1 r16 0 0 0 0 0 - -\n1 1 r16 7 0 0 0 0 1 5",
             // Nothing relates two fields of a line.
             "1 1 ignored 0 0 0 0 0 500 5\n1 1 r9 0 0 0 0 0 - 1,2,3*\n",
         ];
@@ -187,6 +189,10 @@ mod tests {
             "r0",
             "r13",
             "r14",
+            "r15",
+            "r17",
+            "r160",
+            "r016",
             "r01",
             "r-1",
             "R1",
@@ -322,6 +328,60 @@ mod tests {
             assert_eq!(printed.len(), 73 * count as usize + between);
             assert!(printed.ends_with(b"\n"));
         }
+    }
+
+    /// Changes: "Ok `S`, `SA` and `R` lines are entries, also of period 0."
+    #[test]
+    fn lines_that_store_or_return_are_entries() {
+        let script = format!("{RIG}S 1\nT 1 10 -\nS 1\nR 1 10001\nR 1 4\nR 2 0\nR 1 1\n");
+        let page = [
+            "         0          0            -                                      \n",
+            "         1          0            -                                      \n",
+            "         2          0            -                                      \n",
+            "         5          0            -                                      \n",
+        ];
+        let text = printed_by_rig(&script);
+        assert_eq!(pages(&text), (page.concat().into_bytes(), 0));
+        // A command of such a period stands, as anywhere.
+        let decided = format!("{script}T 2 1 1\nD 2 2\nR 1 0\nD 1 9\n");
+        let text = printed_by_rig(&decided);
+        let line = "         1          0            7          -4                          \n";
+        let page = [page[0], line, page[2], page[3]];
+        assert_eq!(pages(&text), (page.concat().into_bytes(), 0));
+    }
+
+    #[test]
+    fn what_a_rig_with_power_cycles_prints_is_nowhere_passed_over() {
+        let mut seed: u32 = 11;
+        let mut next = |bound: u32| {
+            seed = seed.wrapping_mul(1_664_525).wrapping_add(1_013_904_223);
+            (seed >> 16) % bound
+        };
+        let mut refused = 0;
+        for _ in 0..100 {
+            let lines: Vec<String> = (1..=200)
+                .map(|number| match next(8) {
+                    0 | 1 => format!("T {} {} -\n", 1 + next(3), next(200)),
+                    2 => format!("G {}\n", 1 + next(4)),
+                    3 => format!("S {}\n", 1 + next(4)),
+                    4 => format!(
+                        "R {} {}\n",
+                        1 + next(3),
+                        [0, 1, 2, 10_001][next(4) as usize]
+                    ),
+                    _ => format!("D {} {}\n", 1 + next(3), next(number)),
+                })
+                .collect();
+            let text = printed_by_rig(&format!("{RIG}{}", lines.concat()));
+            refused += String::from_utf8(text.clone())
+                .unwrap()
+                .matches(" r16 ")
+                .count();
+            let (printed, passed_over) = pages(&text);
+            assert_eq!(passed_over, 0);
+            assert!(!printed.is_empty());
+        }
+        assert!(refused > 100, "{refused}");
     }
 
     #[test]

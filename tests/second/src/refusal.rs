@@ -16,7 +16,8 @@ pub enum Refusal {
     Coefficient = 3,
     /// "a lower limit above its upper"
     Limits = 4,
-    /// "frame area under 69 bytes or command area under 24"
+    /// "frame area under 69 bytes or command area under 24"; document 02, L4:
+    /// "5 also for a record area too short"
     Areas = 5,
     /// "period already 4,294,967,295"
     LastPeriod = 6,
@@ -38,6 +39,13 @@ pub enum Refusal {
     /// Document 02, L3: "more than 60 distinct periods, or on reading back a
     /// page that no writing gives"
     Page = 14,
+    /// Document 02, L4: "record not of the layout, or with settings refused at
+    /// making, a mode or mark of no meaning, a box heard above N, a base above
+    /// its counter, or an absent value not 0"
+    Record = 15,
+    /// Document 02, L4: "missed count over 10,000, or a period or view that
+    /// would pass its largest value"
+    Missed = 16,
 }
 
 impl Refusal {

@@ -213,13 +213,18 @@ impl Replica {
         if planted(Fault::AreasBeforeSettings) {
             areas.check()?;
         }
-        check_group(self.boxes, self.own)?;
-        law::check(&self.settings)?;
+        self.check_settings()?;
         areas.check()?;
         match event(self)? {
             Outcome::Ignored => Ok(Step::silent(Answer::Ignored)),
             Outcome::Done(sent) => self.write(&sent, areas),
         }
+    }
+
+    /// Refusals 1 to 4 of the settings in a replica.
+    pub(crate) fn check_settings(&self) -> Result<(), Refusal> {
+        check_group(self.boxes, self.own)?;
+        law::check(&self.settings)
     }
 
     fn write(&self, sent: &Sent, areas: Areas) -> Result<Step, Refusal> {
@@ -655,7 +660,7 @@ impl Replica {
 
 impl Step {
     /// A step that writes nothing.
-    fn silent(answer: Answer) -> Step {
+    pub(crate) fn silent(answer: Answer) -> Step {
         Step {
             answer,
             frame_length: 0,
@@ -666,7 +671,7 @@ impl Step {
 
 impl Areas<'_> {
     /// Refusal 5: "frame area under 69 bytes or command area under 24".
-    fn check(&self) -> Result<(), Refusal> {
+    pub(crate) fn check(&self) -> Result<(), Refusal> {
         if self.frame.len() < frame::FRAME_AREA || self.command.len() < frame::COMMAND_AREA {
             return Err(Refusal::Areas);
         }

@@ -1,13 +1,16 @@
 //! Document 01, "The bench": scripts of events for a group of boxes, read
 //! from lines and answered line by line. `rig` is the same for any group, and
-//! takes readings as document 02's L1 has them.
+//! takes readings as document 02's L1 has them, and boxes that stop and return
+//! as its L4 has them.
 
 use std::io::{self, BufRead, Write};
 use std::ops::RangeInclusive;
 
+use crate::fault::{planted, Fault};
 use crate::frame::{command_values, COMMAND_AREA, FRAME_AREA};
 use crate::law::{self, Settings, MAX_READINGS};
 use crate::reading::{Reading, Row};
+use crate::record;
 use crate::refusal::Refusal;
 use crate::replica::{check_group, Answer, Areas, Replica, Step};
 
@@ -46,7 +49,8 @@ pub fn bench(mut input: impl BufRead, mut output: impl Write) -> io::Result<()> 
 }
 
 /// The program `rig`: the first line names the group, the rest is as the
-/// bench's, but that a reading may be a single.
+/// bench's, but that a reading may be a single, and that a box may store its
+/// record and return from it.
 pub fn rig(mut input: impl BufRead, mut output: impl Write) -> io::Result<()> {
     let first = next_line(&mut input)?.unwrap_or_default();
     match rig_group(&first) {
@@ -79,7 +83,7 @@ fn rig_group(line: &[u8]) -> Result<Group, Unfit> {
     let settings = rig_settings(n, m, p, &mut words).ok_or(Unfit::Bad)?;
     let group = Group::new(boxes, settings)?;
     Ok(Group {
-        takes_singles: true,
+        is_rig: true,
         ..group
     })
 }
@@ -202,28 +206,38 @@ enum What {
     Tick(Row),
     GiveUp,
     Deliver(Vec<u8>),
+    /// The record is stored.
+    Store,
+    /// The box comes back from a record.
+    Return {
+        record: Vec<u8>,
+        missed: u32,
+    },
 }
 
-/// The boxes, and the frame that each line up to now sent.
+/// The boxes, the record that each stored last, and the frame that each line
+/// up to now sent.
 #[derive(Debug, PartialEq, Eq)]
 struct Group {
     replicas: Vec<Replica>,
+    stored: Vec<Option<Vec<u8>>>,
     sent: Vec<Option<Vec<u8>>>,
-    /// Whether a reading may be a single: the rig's may, the bench's are as
-    /// they were.
-    takes_singles: bool,
+    /// Whether a reading may be a single and a box may store its record and
+    /// return: on the rig, while the bench is as it was.
+    is_rig: bool,
 }
 
 impl Group {
     /// "fresh replicas whose settings differ in the own number alone", with
-    /// readings as the bench's.
+    /// lines as the bench's.
     fn new(boxes: u8, settings: Settings) -> Result<Group, Refusal> {
         check_group(boxes, 1)?;
         let replicas = (1..=boxes).map(|own| Replica::new(boxes, own, settings));
         Ok(Group {
             replicas: replicas.collect::<Result<_, _>>()?,
+            stored: vec![None; boxes.into()],
             sent: Vec::new(),
-            takes_singles: false,
+            is_rig: false,
         })
     }
 
@@ -265,9 +279,20 @@ impl Group {
             What::Tick(row) => replica.tick(row, areas),
             What::GiveUp => replica.give_up(areas),
             What::Deliver(bytes) => replica.arrive(bytes, areas),
+            What::Store => (replica, quiet_step(self.store(event.place))),
+            What::Return { record, missed } => come_back(replica, record, *missed),
         };
         self.replicas[event.place] = replica;
         step
+    }
+
+    /// Changes: "the record of box r's replica is stored".
+    fn store(&mut self, place: usize) -> Result<(), Refusal> {
+        if planted(Fault::SecondStoreDropped) && self.stored[place].is_some() {
+            return Ok(());
+        }
+        self.stored[place] = Some(record_of(&self.replicas[place])?);
+        Ok(())
     }
 
     /// "Fields printed: line, box, answer, period, view, base view, base
@@ -300,7 +325,8 @@ impl Group {
         )
     }
 
-    /// `T r y1 .. ym`, `G r` or `D r f`; none for any other line.
+    /// `T r y1 .. ym`, `G r` or `D r f`, and on the rig `S r` or `R r k`; none
+    /// for any other line.
     fn parse(&self, line: &[u8]) -> Option<Event> {
         let mut words = words(line);
         let letter = words.next()?;
@@ -309,6 +335,8 @@ impl Group {
             b"T" => What::Tick(self.parse_row(&mut words)?),
             b"G" => What::GiveUp,
             b"D" => What::Deliver(self.sent_frame(words.next()?)?),
+            b"S" if self.is_rig => What::Store,
+            b"R" if self.is_rig => self.parse_return(place, words.next()?)?,
             _ => return None,
         };
         words.next().is_none().then_some(Event { place, what })
@@ -329,9 +357,17 @@ impl Group {
     fn parse_reading(&self, word: &[u8]) -> Option<Reading> {
         match word {
             b"-" => Some(Reading::Missing),
-            [b'f', ..] if self.takes_singles => single(word).map(Reading::Newtons),
+            [b'f', ..] if self.is_rig => single(word).map(Reading::Newtons),
             _ => i32::try_from(number(word)?).ok().map(Reading::Count),
         }
+    }
+
+    /// Changes: "with k missed periods (k decimal, 0 to 4294967295); `bad`
+    /// where it has stored none".
+    fn parse_return(&self, place: usize, word: &[u8]) -> Option<What> {
+        let missed = u32::try_from(number(word)?).ok()?;
+        let record = self.stored[place].clone()?;
+        Some(What::Return { record, missed })
     }
 
     /// The frame that an earlier line sent.
@@ -339,6 +375,34 @@ impl Group {
         let line_number = number_in(word, 1..=self.sent.len())?;
         self.sent[line_number - 1].clone()
     }
+}
+
+fn record_of(replica: &Replica) -> Result<Vec<u8>, Refusal> {
+    let mut record = vec![0; record::LENGTH];
+    record::write(replica, &mut record)?;
+    Ok(record)
+}
+
+/// Changes: "box r comes back from the record that it stored last"; "`r16`
+/// where returning refuses, and then the box stays as it was".
+fn come_back(present: Replica, record: &[u8], missed: u32) -> (Replica, Step) {
+    let returned = if planted(Fault::PresentReturned) {
+        record_of(&present).and_then(|record| record::return_from(&record, missed))
+    } else {
+        record::return_from(record, missed)
+    };
+    (
+        returned.unwrap_or(present),
+        quiet_step(returned.map(|_| ())),
+    )
+}
+
+/// Changes: "frame and command are `-`".
+fn quiet_step(done: Result<(), Refusal>) -> Step {
+    Step::silent(match done {
+        Ok(()) => Answer::Ok,
+        Err(refusal) => Answer::Refused(refusal),
+    })
 }
 
 fn commas(values: &[i32]) -> String {
@@ -567,6 +631,145 @@ mod tests {
                         6 1 ok 3 0 0 3 98304,-98304,12 6 -\n\
                         7 bad\n";
         assert_eq!(run_rig(input.as_bytes()), with_header(expected));
+    }
+
+    /// The bench's group on the rig, with these lines.
+    fn run_bench_rig(lines: &str) -> String {
+        let first = "rig 3 1 1 1 65536 32768 65536 65536 -2147483648 2147483647 0";
+        run_rig(format!("{first}\n{lines}").as_bytes())
+    }
+
+    #[test]
+    fn a_box_of_the_rig_comes_back_from_the_record_it_stored_last() {
+        let lines = "R 2 0\nS 2\nT 2 100\nR 2 0\nT 2 100\nS 2\nT 2 7\nT 2 -\n\
+                     R 2 1\nR 2 3\nR 2 0\nT 2 -\nR 2 10000\nR 1 0\nR 2 0\n";
+        let expected = "1 bad\n\
+                        2 2 ok 0 0 0 0 0 - -\n\
+                        3 2 ok 1 0 0 0 0 - -\n\
+                        4 2 ok 0 0 0 0 0 - -\n\
+                        5 2 ok 1 0 0 0 0 - -\n\
+                        6 2 ok 1 0 0 0 0 - -\n\
+                        7 2 ok 2 0 0 0 50 - -\n\
+                        8 2 ok 3 0 0 0 28 - -\n\
+                        9 2 ok 2 0 0 0 50 - -\n\
+                        10 2 ok 4 0 0 0 50 - -\n\
+                        11 2 ok 1 0 0 0 0 - -\n\
+                        12 2 ok 2 0 0 0 50 - -\n\
+                        13 2 ok 10001 0 0 0 50 - -\n\
+                        14 bad\n\
+                        15 2 ok 1 0 0 0 0 - -\n";
+        assert_eq!(run_bench_rig(lines), with_header(expected));
+    }
+
+    /// Changes: "`r16` where returning refuses, and then the box stays as it
+    /// was".
+    #[test]
+    fn a_refused_return_leaves_the_box_as_it_was() {
+        let lines = "T 1 100\nS 1\nT 1 102\nR 1 10001\nR 1 4294967295\nT 1 -\n\
+                     R 1 10000\nR 1 10001\nR 1 1\n";
+        let expected = "1 1 ok 1 0 0 1 0 1 -\n\
+                        2 1 ok 1 0 0 1 0 - -\n\
+                        3 1 ok 2 0 0 2 50 3 -\n\
+                        4 1 r16 2 0 0 2 50 - -\n\
+                        5 1 r16 2 0 0 2 50 - -\n\
+                        6 1 ok 3 0 0 3 76 6 -\n\
+                        7 1 ok 10001 0 0 10001 50 - -\n\
+                        8 1 r16 10001 0 0 10001 50 - -\n\
+                        9 1 ok 2 0 0 2 50 - -\n";
+        assert_eq!(run_bench_rig(lines), with_header(expected));
+    }
+
+    /// A coordinator proposes in a missed period, but its frame is lost; what
+    /// left before the stop can still be delivered.
+    #[test]
+    fn lines_that_store_or_return_send_no_frame() {
+        let lines = "T 1 100\nS 1\nT 2 102\nD 2 1\nR 1 1\nD 2 2\nD 2 5\n\
+                     R 1 0\nD 1 4\nR 1 0\nD 1 4\n";
+        let expected = "1 1 ok 1 0 0 1 0 1 -\n\
+                        2 1 ok 1 0 0 1 0 - -\n\
+                        3 2 ok 1 0 0 0 0 - -\n\
+                        4 2 ok 1 0 0 1 0 4 -\n\
+                        5 1 ok 2 0 0 2 50 - -\n\
+                        6 bad\n7 bad\n\
+                        8 1 ok 1 0 0 1 0 - -\n\
+                        9 1 ok 1 0 0 1 0 9 50\n\
+                        10 1 ok 1 0 0 1 0 - -\n\
+                        11 1 ok 1 0 0 1 0 11 50\n";
+        assert_eq!(run_bench_rig(lines), with_header(expected));
+    }
+
+    /// Box 2 returns into its view change, its own estimate heard and weighed;
+    /// with a missed period it has left that view.
+    #[test]
+    fn a_view_change_is_stored_with_what_was_heard() {
+        let lines = "T 2 20\nG 2\nS 2\nT 3 30\nG 3\nT 2 5\nR 2 0\nD 2 5\nR 2 1\nD 2 5\n";
+        let expected = "1 2 ok 1 0 0 0 0 - -\n\
+                        2 2 ok 1 1 0 0 0 - -\n\
+                        3 2 ok 1 1 0 0 0 - -\n\
+                        4 3 ok 1 0 0 0 0 - -\n\
+                        5 3 ok 1 1 0 0 0 5 -\n\
+                        6 2 ok 2 2 0 0 10 6 -\n\
+                        7 2 ok 1 1 0 0 0 - -\n\
+                        8 2 ok 1 1 1 1 0 8 -\n\
+                        9 2 ok 2 2 0 0 10 - -\n\
+                        10 2 ignored 2 2 0 0 10 - -\n";
+        assert_eq!(run_bench_rig(lines), with_header(expected));
+    }
+
+    #[test]
+    fn lines_that_store_or_return_have_one_form() {
+        let bad = [
+            "S",
+            "S ",
+            "S 0",
+            "S 4",
+            "S -1",
+            "S 01",
+            "S 1 ",
+            "S 1 1",
+            "S  1",
+            " S 1",
+            "s 1",
+            "S 1\r",
+            "SA 1",
+            "R",
+            "R 1",
+            "R 1 ",
+            "R 0 0",
+            "R 4 0",
+            "R 01 0",
+            "R 1 -",
+            "R 1 -1",
+            "R 1 -0",
+            "R 1 +1",
+            "R 1 01",
+            "R 1 00",
+            "R 1 4294967296",
+            "R 1 99999999999999999999",
+            "R 1 1 1",
+            "R 1 1 ",
+            "R 1  1",
+            "R  1 1",
+            "R 1 f00000000",
+            "R 1 0x1",
+            "R 1 1\r",
+            "r 1 1",
+            "R 2 0",
+            "R 3 10001",
+        ];
+        for line in bad {
+            let output = run_bench_rig(&format!("S 1\n{line}\nR 1 0\n"));
+            let expected = "1 1 ok 0 0 0 0 0 - -\n2 bad\n3 1 ok 0 0 0 0 0 - -\n";
+            assert_eq!(output, with_header(expected), "{line:?}");
+        }
+    }
+
+    /// Changes: "`bench` changes only where document 02 names it".
+    #[test]
+    fn the_bench_stores_nothing_and_returns_nothing() {
+        let output = run_bench(b"S 1\nT 2 1\nS 2\nR 2 0\nR 1 0\n");
+        let expected = "1 bad\n2 2 ok 1 0 0 0 0 - -\n3 bad\n4 bad\n5 bad\n";
+        assert_eq!(output, with_header(expected));
     }
 
     #[test]

@@ -4,7 +4,7 @@
 use std::io::Write;
 use std::process::{Command, Output, Stdio};
 
-use second::fault::ROUNDING_NAMES;
+use second::fault::{ROUNDING_NAMES, STORE_NAMES};
 
 const BENCH: &str = env!("CARGO_BIN_EXE_bench");
 const RIG: &str = env!("CARGO_BIN_EXE_rig");
@@ -367,6 +367,46 @@ fn faults_of_single_divisions_show() {
         let row = |command: i32| format!("4 1 ok 1 0 0 1 {start} 4 {command}");
         assert_shows_without(&names, fault, &input, &row(right), &row(wrong));
         assert_shows(RIG, "floor_kept", &input, 4, &row(wrong));
+    }
+}
+
+/// The bench's group on the rig, with these lines.
+fn bench_on_the_rig(script: &str) -> String {
+    let settings = "1 1 1 65536 32768 65536 65536 -2147483648 2147483647 0";
+    format!("rig 3 {settings}\n{script}")
+}
+
+/// Box 2 stores in period 0 and in period 1, goes on and returns.
+const STOPPED: &str = "S 2\nT 2 100\nS 2\nT 2 -\nR 2 0\nR 2 2\nR 2 10001\n";
+
+#[test]
+fn a_box_stops_and_returns() {
+    let expected = [
+        "no who answer k v vb kb x frame command",
+        "1 2 ok 0 0 0 0 0 - -",
+        "2 2 ok 1 0 0 0 0 - -",
+        "3 2 ok 1 0 0 0 0 - -",
+        "4 2 ok 2 0 0 0 50 - -",
+        "5 2 ok 1 0 0 0 0 - -",
+        "6 2 ok 3 0 0 0 50 - -",
+        "7 2 r16 3 0 0 0 50 - -",
+    ];
+    assert_eq!(lines(RIG, "", &bench_on_the_rig(STOPPED)), expected);
+}
+
+#[test]
+fn faults_of_returning_show() {
+    let cases = [
+        ("present_returned", 5, "5 2 ok 2 0 0 0 50 - -"),
+        ("second_store_dropped", 5, "5 2 ok 0 0 0 0 0 - -"),
+        ("missed_without_update", 6, "6 2 ok 3 0 0 0 0 - -"),
+        ("missed_one_fewer", 6, "6 2 ok 2 0 0 0 50 - -"),
+        ("missed_beyond_taken", 7, "7 2 ok 10002 0 0 0 50 - -"),
+    ];
+    let names = STORE_NAMES.map(|(name, _)| name);
+    assert_eq!(names, [cases[0].0, cases[1].0]);
+    for (fault, line, row) in cases {
+        assert_shows(RIG, fault, &bench_on_the_rig(STOPPED), line, row);
     }
 }
 

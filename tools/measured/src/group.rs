@@ -10,6 +10,7 @@ pub const VALUES: [i32; 4] = [103, 204, 305, 406];
 const HALF: i32 = 32_768;
 const ONE: i32 = 65_536;
 
+#[derive(Clone)]
 pub struct Law {
     pub settings: winder::Settings,
     pub start: [i32; 6],

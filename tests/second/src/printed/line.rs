@@ -77,12 +77,14 @@ fn is_box(word: &[u8]) -> bool {
 }
 
 /// "`r` and the number, as `r9`". The numbers are those of events and
-/// settings: no script prints a page's refusals.
+/// settings, and that of a return: no script prints a page's refusals or a
+/// record's.
 fn is_refusal(word: &[u8]) -> bool {
-    let last = Refusal::LastView.number();
+    let last = usize::from(Refusal::LastView.number());
+    let missed = usize::from(Refusal::Missed.number());
     word.strip_prefix(b"r")
-        .and_then(|number| number_in(number, 1..=last.into()))
-        .is_some()
+        .and_then(|number| number_in(number, 1..=missed))
+        .is_some_and(|number| number <= last || number == missed)
 }
 
 /// "answer (`ok`, `ignored`, or `r` and the number, as `r9`)"
@@ -169,7 +171,10 @@ mod tests {
         let fields = [
             ("1 9 500", "0 501 01 +1 -1 -"),
             ("1 9", "0 10 01 -1 -"),
-            ("ok ignored r1 r9 r10 r12", "r r0 r13 r01 R1 Ok oks bad - 1"),
+            (
+                "ok ignored r1 r9 r10 r12 r16",
+                "r r0 r13 r14 r15 r17 r116 r016 r01 R1 Ok oks bad - 1",
+            ),
             counters,
             counters,
             counters,

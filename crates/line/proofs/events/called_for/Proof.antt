@@ -45,13 +45,33 @@ returns-3 c =
     )
     (c .delivery .ensures ∙ ap (deliveryCalled _ _) n)
 
-calls-requires : tie.Need-calls-requires
-calls-requires c κs = search needs
+power-requires : tie.Need-power-requires
+power-requires c κs = search needs
 
 returns-4 : tie.Need-returns-4
 unfolding calledFor pick
 returns-4 c =
-    rw (ne-eqb _ _ (c .before .before .before .if1 .left), ne-eqb _ _ (c .before .before .if2 .left), ne-eqb _ _ (c .before .if3 .left)) (c .calls .ensures)
+    rw (
+      ne-eqb _ _ (c .before .before .before .before .if1 .left),
+      ne-eqb _ _ (c .before .before .before .if2 .left),
+      ne-eqb _ _ (c .before .before .if3 .left),
+      c .before .if4 .taken,
+    )
+    (c .power .ensures)
+
+calls-requires : tie.Need-calls-requires
+calls-requires c κs = search needs
+
+returns-5 : tie.Need-returns-5
+unfolding calledFor pick
+returns-5 c =
+    rw (
+      ne-eqb _ _ (c .before .before .before .before .if1 .left),
+      ne-eqb _ _ (c .before .before .before .if2 .left),
+      ne-eqb _ _ (c .before .before .if3 .left),
+      c .before .if4 .left,
+    )
+    (c .calls .ensures)
 
 pub called-for-spec : {M : Type 1} → statement M
 called-for-spec =
@@ -66,5 +86,7 @@ called-for-spec =
     count-of-requires
     delivery-requires
     returns-3
+    power-requires
+    returns-4
     calls-requires
-    returns-4)
+    returns-5)

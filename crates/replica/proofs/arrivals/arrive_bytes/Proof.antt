@@ -3,7 +3,7 @@ use mathlib.Core.Path.{sym, _∙_}
 use borrow.Author.Tests.{eq-eqb, ne-eqb}
 use Rattle.scram.specs.Events.{arrival}
 use Rattle.replica.proofs.Calls.{found-none, found-some}
-use Rattle.replica.proofs.Given.{says-refused}
+use Rattle.replica.proofs.Gives.{says-refused}
 use borrow.Author.Needs.{needs}
 use Rattle.replica.proofs.arrivals.arrive_bytes.Statement.{statement}
 use Rattle.replica.proofs.arrivals.arrive_bytes.Tie as tie

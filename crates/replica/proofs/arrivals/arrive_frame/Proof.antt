@@ -6,7 +6,7 @@ use Rattle.scram.specs.Quorum.{coordinator}
 use Rattle.scram.specs.Events.{badSender, badPlace, badBase, arrive}
 use Rattle.replica.specs.Frames.{kindOf}
 use Rattle.replica.proofs.Accepted.{sender-place}
-use Rattle.replica.proofs.Given.{says-refused, says-ignored, says-true, says-false}
+use Rattle.replica.proofs.Gives.{says-refused, says-ignored, says-true, says-false}
 use borrow.Author.Needs.{needs}
 use Rattle.replica.proofs.arrivals.arrive_frame.Statement.{statement}
 use Rattle.replica.proofs.arrivals.arrive_frame.Tie as tie

@@ -1,7 +1,7 @@
 -- `hear_ack` meets its contract. Assumes nothing.
 use mathlib.Core.Path.{sym, _∙_}
 use Rattle.scram.specs.Events.{hearAck}
-use Rattle.replica.proofs.Given.{says-done, says-true, says-false}
+use Rattle.replica.proofs.Gives.{says-done, says-true, says-false}
 use borrow.Author.Needs.{needs}
 use Rattle.replica.proofs.arrivals.hear_ack.Statement.{statement}
 use Rattle.replica.proofs.arrivals.hear_ack.Tie as tie

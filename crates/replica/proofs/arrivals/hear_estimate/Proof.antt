@@ -2,7 +2,7 @@
 use mathlib.Core.Path.{sym, ap, _∙_}
 use Rattle.scram.specs.Events.{hearing, hearEstimate}
 use Rattle.replica.specs.Held.{bestIn, heldIn, heldOf}
-use Rattle.replica.proofs.Given.{says-done, says-true, says-false}
+use Rattle.replica.proofs.Gives.{says-done, says-true, says-false}
 use borrow.Author.Needs.{needs}
 use Rattle.replica.proofs.arrivals.hear_estimate.Statement.{statement}
 use Rattle.replica.proofs.arrivals.hear_estimate.Tie as tie

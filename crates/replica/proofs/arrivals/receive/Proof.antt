@@ -1,6 +1,6 @@
 -- `receive` meets its contract. Assumes nothing.
 use Rattle.scram.specs.Events.{receive}
-use Rattle.replica.proofs.Given.{says-nothing}
+use Rattle.replica.proofs.Gives.{says-nothing}
 use borrow.Author.Needs.{needs}
 use Rattle.replica.proofs.arrivals.receive.Statement.{statement}
 use Rattle.replica.proofs.arrivals.receive.Tie as tie

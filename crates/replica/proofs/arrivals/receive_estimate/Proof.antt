@@ -2,7 +2,7 @@
 use native.Mathlib.Omega.{arith}
 use borrow.Author.Tests.{lt-ltb, le-ltb}
 use Rattle.scram.specs.Events.{receive}
-use Rattle.replica.proofs.Given.{says-true, says-false}
+use Rattle.replica.proofs.Gives.{says-true, says-false}
 use borrow.Author.Needs.{needs}
 use Rattle.replica.proofs.arrivals.receive_estimate.Statement.{statement}
 use Rattle.replica.proofs.arrivals.receive_estimate.Tie as tie

@@ -7,6 +7,8 @@ use lib.ListN.{length}
 use Rattle.lists.specs.Choice.{pick}
 use Rattle.bytes.specs.Areas.{over}
 use Rattle.frame.specs.Command.{commandBytes}
+use Rattle.law.specs.Settings.{settingsOf}
+use Rattle.replica.proofs.Accepted.{command-sizes}
 use Rattle.replica.proofs.Written.{command-is}
 use borrow.Author.Needs.{needs}
 use Rattle.replica.proofs.output.issue.Statement.{statement}
@@ -16,8 +18,8 @@ returns : tie.Need-returns
 unfolding pick
 returns c = rw (not-true (c .before .before .args .issues) (c .if1 .taken)) (refl, refl)
 
-issue-requires : tie.Need-issue-requires
-issue-requires c κs = search needs
+issued-requires : tie.Need-issued-requires
+issued-requires c κs = search needs
 
 write-command-requires : tie.Need-write-command-requires
 write-command-requires c κs = search needs
@@ -28,14 +30,14 @@ same-length c = search needs
 returns-2 : tie.Need-returns-2
 unfolding pick
 returns-2 c =
-    let s = c .before .before .before .before .before .before .before .before .before .before .before .before in
-    let area = s .args .area .now in
+    let s = c .before .before .before .before .before .before .before .before .before .before .before in
+    let a = s .args in
     let w = c .before .before .write-command .ensures in
-    let is = command-is (s .args .p) (s .args .held .period) _ area (s .pre .0) (s .pre .1)
-    ∙ ap (commandBytes (s .args .p) (s .args .held .period)) (c .before .before .before .before .before .issue .ensures .1) in
-    rw (not-false (s .args .issues) (c .before .before .before .before .before .before .before .before .before .before .if1 .left))
-    (w .1 .0 ∙ ap length is, w .1 .1 ∙ ap (λ (b : List ℕ). over b area) is)
+    let law = settingsOf (a .n) (a .m) (a .p) (a .a .now) (a .l .now) (a .c .now) (a .k .now) (a .low .now) (a .high .now) in
+    let is = command-is (a .p) (a .held .period) _ (a .area .now) (command-sizes law (s .pre .0)) (s .pre .1)
+    ∙ ap (commandBytes (a .p) (a .held .period)) (c .before .before .before .before .issued .ensures) in
+    rw (not-false (a .issues) (c .before .before .before .before .before .before .before .before .before .if1 .left)) (w .1 .0 ∙ ap length is, w .1 .1 ∙ ap (λ (b : List ℕ). over b (a .area .now)) is)
 
 pub issue-spec : {M : Type 1} → statement M
 issue-spec =
-    tie.close (tie.spec returns issue-requires write-command-requires same-length returns-2)
+    tie.close (tie.spec returns issued-requires write-command-requires same-length returns-2)

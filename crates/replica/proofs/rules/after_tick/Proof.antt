@@ -1,7 +1,7 @@
 -- `after_tick` meets its contract. Assumes nothing.
 use mathlib.Core.Path.{refl, sym, _∙_}
 use Rattle.scram.specs.Events.{afterTick}
-use Rattle.replica.proofs.Given.{says-done, says-true, says-false}
+use Rattle.replica.proofs.Gives.{says-done, says-true, says-false}
 use borrow.Author.Needs.{needs}
 use Rattle.replica.proofs.rules.after_tick.Statement.{statement}
 use Rattle.replica.proofs.rules.after_tick.Tie as tie

@@ -2,7 +2,7 @@
 use mathlib.Core.Path.{sym, _∙_}
 use borrow.Author.Tests.{le-leb, lt-leb}
 use Rattle.scram.specs.Events.{giveUp}
-use Rattle.replica.proofs.Given.{says-refused, says-ignored, says-true, says-false}
+use Rattle.replica.proofs.Gives.{says-refused, says-ignored, says-true, says-false}
 use borrow.Author.Needs.{needs}
 use Rattle.replica.proofs.rules.give_up_view.Statement.{statement}
 use Rattle.replica.proofs.rules.give_up_view.Tie as tie

@@ -2,7 +2,7 @@
 use mathlib.Core.Path.{sym, _∙_}
 use native.Mathlib.Omega.{arith}
 use Rattle.scram.specs.Events.{raise}
-use Rattle.replica.proofs.Given.{says-done, says-true, says-false}
+use Rattle.replica.proofs.Gives.{says-done, says-true, says-false}
 use borrow.Author.Needs.{needs}
 use Rattle.replica.proofs.rules.raise.Statement.{statement}
 use Rattle.replica.proofs.rules.raise.Tie as tie

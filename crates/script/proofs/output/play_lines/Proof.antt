@@ -24,7 +24,7 @@ abbrev μ-loop : tie.MeasureT-loop
 short : (c : tie.After-shared-slice-known Inv-loop μ-loop) → length (c .before .args .text .now) < 18446744073709551615
 short c = omega arith
 
-ten : (c : tie.Start Inv-loop μ-loop) → length (c .args .replicas) ≡ 10
+ten : (c : tie.Start Inv-loop μ-loop) → length (c .args .kept) ≡ 10
 ten c = search needs
 
 loop-holds : tie.Need-loop-holds Inv-loop μ-loop

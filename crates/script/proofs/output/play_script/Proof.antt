@@ -6,7 +6,7 @@ use Prim.Native.Nat.{ℕ, _+_}
 use lib.ListN.{take, replicate}
 use native.Mathlib.Omega.{arith}
 use Rattle.text.proofs.PrintingLaws.{put-within}
-use Rattle.replica.specs.declared.Replica.{Replica}
+use Rattle.script.specs.declared.play.Kept.{Kept}
 use Rattle.script.specs.Printing.{headerLine}
 use Rattle.script.specs.Play.{most, tableLength}
 use Rattle.text.specs.Lines.{linesOf}
@@ -58,7 +58,7 @@ returns c =
     let start : Left = left (c .before .before .before .before .before .before .before .before .before .before .before .before .before .fresh .result)
     (replicate tableLength 0) (replicate (most + 1) 0) (take (h .result) _) in
     let same : start ≡ unplayed (a .settings) =
-    ap₂ (λ (r : List Replica) (p : List ℕ). left r (replicate tableLength 0) (replicate (most + 1) 0) p)
+    ap₂ (λ (b : List Kept) (p : List ℕ). left b (replicate tableLength 0) (replicate (most + 1) 0) p)
     (c .before .before .before .before .before .before .before .before .before .before .before .before .before .fresh .ensures) (w .text) in
     let whole = ap₂ (λ (m : ℕ) (l : Left). played (a .of-rig) (a .settings .boxes) m 0 l (linesOf most (a .text .now)) .printed)
     (c .before .before .before .before .before .before .before .before .before .before .before .before .at-most .ensures) same in

@@ -14,6 +14,12 @@ enum-known-event-2 c = search needs
 enum-known-event-3 : tie.Need-enum-known-event-3
 enum-known-event-3 c = search needs
 
+enum-known-event-4 : tie.Need-enum-known-event-4
+enum-known-event-4 c = search needs
+
+enum-known-event-5 : tie.Need-enum-known-event-5
+enum-known-event-5 c = search needs
+
 enum-told : tie.Need-enum-told
 enum-told c = search needs
 
@@ -31,7 +37,15 @@ returns-3 c = sym (ap boxIn (c .before .event3 .given .1))
 
 returns-4 : tie.Need-returns-4
 unfolding boxIn
-returns-4 c = sym (ap boxIn (c .enum-told .given .1))
+returns-4 c = sym (ap boxIn (c .before .event4 .given .1))
+
+returns-5 : tie.Need-returns-5
+unfolding boxIn
+returns-5 c = sym (ap boxIn (c .before .event5 .given .1))
+
+returns-6 : tie.Need-returns-6
+unfolding boxIn
+returns-6 c = sym (ap boxIn (c .enum-told .given .1))
 
 pub box-of-spec : {M : Type 1} → statement M
 box-of-spec =
@@ -40,8 +54,12 @@ box-of-spec =
     enum-known-event
     enum-known-event-2
     enum-known-event-3
+    enum-known-event-4
+    enum-known-event-5
     enum-told
     returns
     returns-2
     returns-3
-    returns-4)
+    returns-4
+    returns-5
+    returns-6)

@@ -19,7 +19,7 @@ returns : tie.Need-returns
 returns c =
     let a = c .before .before .before .before .before .before .before .before .before .args in
     let no-room = sym (c .before .before .before .before .before .has-room .ensures) ∙ not-true _ (c .before .before .before .before .if1 .taken) in
-    leaves-bad (a .replica) (a .event) (a .readings) (a .at) (a .number) (a .table .now) (a .lengths .now) _ _ _ (rw no-room)
+    leaves-bad (a .kept) (a .event) (a .readings) (a .at) (a .number) (a .table .now) (a .lengths .now) _ _ _ (rw no-room)
     (c .before .before .bad .ensures)
 
 is-playable-requires : tie.Need-is-playable-requires
@@ -40,7 +40,7 @@ returns-2 c =
     let roomed = sym (c .before .before .before .before .before .before .before .before .has-room .ensures) ∙ not-false _
     (c .before .before .before .before .before .before .before .if1 .left) in
     let not-played = sym (c .before .before .before .before .before .is-playable .ensures) ∙ not-true _ (c .before .before .before .before .if2 .taken) in
-    leaves-bad (a .replica) (a .event) (a .readings) (a .at) (a .number) (a .table .now) (a .lengths .now) _ _ _ (rw (roomed, not-played))
+    leaves-bad (a .kept) (a .event) (a .readings) (a .at) (a .number) (a .table .now) (a .lengths .now) _ _ _ (rw (roomed, not-played))
     (c .before .before .bad2 .ensures)
 
 play-event-requires : tie.Need-play-event-requires
@@ -48,7 +48,7 @@ play-event-requires c κs =
     let r = room _ _ _ _ (sym (c .before .before .before .before .before .before .before .has-room .ensures) ∙ not-false _
     (c .before .before .before .before .before .before .if1 .left)) in
     let p = sym (c .before .before .before .before .is-playable .ensures) ∙ not-false _ (c .before .before .before .if2 .left) in
-    (earlier _ _ _ p (r .early), r .early, r .frames, r .sizes)
+    (earlier _ _ _ _ p (r .early), r .early, r .frames, r .sizes)
 
 same-length-4 : tie.Need-same-length-4
 same-length-4 c = search needs
@@ -67,7 +67,7 @@ returns-3 c =
     (c .before .before .before .before .before .before .before .before .before .before .before .before .before .if1 .left) in
     let played = sym (c .before .before .before .before .before .before .before .before .before .before .before .is-playable .ensures) ∙ not-false _
     (c .before .before .before .before .before .before .before .before .before .before .if2 .left) in
-    leaves-played (a .replica) (a .event) (a .readings) (a .at) (a .number) (a .table .now) (a .lengths .now) _ _ _ (rw (roomed, played))
+    leaves-played (a .kept) (a .event) (a .readings) (a .at) (a .number) (a .table .now) (a .lengths .now) _ _ _ (rw (roomed, played))
     (c .before .before .before .before .before .before .play-event .ensures)
 
 pub play-spec : {M : Type 1} → statement M

@@ -7,7 +7,7 @@ use Rattle.replica.specs.Calls.{Gives}
 use Rattle.frame.specs.Lengths.{longestFrame, longestCommand}
 use Rattle.line.specs.Frames.{frameOf}
 use Rattle.line.proofs.FrameLaws.{kept-there}
-use Rattle.script.specs.Play.{outcomeOf, eventOutcome}
+use Rattle.script.specs.Play.{settingsAfter, outcomeOf, eventOutcome}
 use Rattle.script.proofs.PlayLaws.{sent-fits, leaves-step}
 use Rattle.script.proofs.play.play_event.Statement.{statement}
 use Rattle.script.proofs.play.play_event.Tie as tie
@@ -57,6 +57,9 @@ slice-aggregate-step-line c = search needs
 step-line-requires : tie.Need-step-line-requires
 step-line-requires c κs = search needs
 
+kept-after-requires : tie.Need-kept-after-requires
+kept-after-requires c κs = search needs
+
 same-length : tie.Need-same-length
 same-length c = search needs
 
@@ -69,23 +72,23 @@ same-length-3 c = search needs
 returns : tie.Need-returns
 unfolding eventOutcome
 returns c =
-    let a = c .before .before .before .before .before .before .before .before .before .before .before .before .before .before .before .before .before .before .before .before .before .before .before .before .args in
-    let t = c .before .before .before .before .before .before .before .before .before .before .before .before .before .before .step in
+    let a = c .before .before .before .before .before .before .before .before .before .before .before .before .before .before .before .before .before .before .before .before .before .before .before .before .before .args in
+    let t = c .before .before .before .before .before .before .before .before .before .before .before .before .before .before .before .step in
     let bytes =
-    c .before .before .before .before .before .before .before .before .before .before .before .before .before .before .before .before .before .frame-of .ensures
+    c .before .before .before .before .before .before .before .before .before .before .before .before .before .before .before .before .before .before .frame-of .ensures
     ∙ ap (λ f. frameOf (a .table .now) f (getD (a .lengths .now) f 0))
-    (c .before .before .before .before .before .before .before .before .before .before .before .before .before .before .before .before .before .before .before .before .line-of .ensures) in
+    (c .before .before .before .before .before .before .before .before .before .before .before .before .before .before .before .before .before .before .before .before .before .line-of .ensures) in
     let g = subst
-    (λ b. Gives (a .replica .settings) (outcomeOf (a .replica) (a .event) (a .readings) b longestFrame longestCommand) (t .result) (replicate longestFrame 0)
-    (t .last .1 .1 .1 .1 .0) (replicate longestCommand 0) (t .last .1 .1 .1 .1 .1 .0)) bytes (t .ensures) in
+    (λ b. Gives (settingsAfter (a .kept) (a .event)) (outcomeOf (a .kept) (a .event) (a .readings) b longestFrame longestCommand) (t .result)
+    (replicate longestFrame 0) (t .last .1 .1 .1 .1 .0) (replicate longestCommand 0) (t .last .1 .1 .1 .1 .1 .0)) bytes (t .ensures) in
     let most = sent-fits (t .ensures) (t .kept .1 .1 .1 .1 .0) in
     let there =
     kept-there (a .table .now) (a .number) (t .last .1 .1 .1 .1 .0) (t .result .frame)
     (omega (arith, most, t .kept .1 .1 .1 .1 .0)) (omega (arith, most)) (omega
-    (arith, most, c .before .before .before .before .before .before .before .before .before .before .before .before .before .before .before .before .before .before .before .before .before .before .before .before .pre)) in
-    leaves-step _ _ _ _ (a .table .now) _ (a .lengths .now) _ _
-    (c .before .before .step-line .result) g (c .before .before .before .before .before .before .before .before .before .keep .ensures ∙ there)
-    (c .before .before .before .before .box-of .ensures) (c .before .before .step-line .ensures)
+    (arith, most, c .before .before .before .before .before .before .before .before .before .before .before .before .before .before .before .before .before .before .before .before .before .before .before .before .before .pre)) in
+    leaves-step (a .kept) (a .event) _ _ _ (a .table .now) _ (a .lengths .now) _ _
+    (c .before .before .before .step-line .result) g (c .before .before .before .before .before .before .before .before .before .before .keep .ensures ∙ there)
+    (c .before .before .before .before .before .box-of .ensures) (c .before .before .before .step-line .ensures) (c .kept-after .ensures)
 
 pub play-event-spec : {M : Type 1} → statement M
 play-event-spec =
@@ -106,6 +109,7 @@ play-event-spec =
     box-of-requires
     slice-aggregate-step-line
     step-line-requires
+    kept-after-requires
     same-length
     same-length-2
     same-length-3

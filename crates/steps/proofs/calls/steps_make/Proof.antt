@@ -13,15 +13,15 @@ make-requires c κs = search needs
 put-held-requires : tie.Need-put-held-requires
 put-held-requires c κs = search needs
 
-number-of-requires : tie.Need-number-of-requires
-number-of-requires c κs = search needs
+replica-number-requires : tie.Need-replica-number-requires
+replica-number-requires c κs = search needs
 
 returns : tie.Need-returns
 returns c =
     let made = c .before .before .before .before .before .before .before .before .before .before .before .before .before .make .ensures in
-    makes (c .before .before .before .before .before .before .before .before .before .before .before .before .before .before .settings-of .ensures) (made .0) (made .1) (c .number-of .ensures) (c .before .put-held .ensures)
+    makes (c .before .before .before .before .before .before .before .before .before .before .before .before .before .before .settings-of .ensures) (made .0) (made .1) (c .replica-number .ensures) (c .before .put-held .ensures)
 
 pub steps-make-spec : {M : Type 1} → statement M
 steps-make-spec =
     tie.close
-    (tie.spec settings-of-requires make-requires put-held-requires number-of-requires returns)
+    (tie.spec settings-of-requires make-requires put-held-requires replica-number-requires returns)

@@ -1,0 +1,8 @@
+-- The proofs of demand 3 with power cycles, for the replica and for the calls of the C firmware.
+pub mod InOrder
+pub mod Quiet
+pub mod Refusals
+pub mod Replicas
+pub mod OnRecords
+pub mod Theorem
+pub mod Meaning

@@ -1,0 +1,166 @@
+-- `winder_tick` meets its contract. Assumes nothing.
+use mathlib.Core.Path.{_≡_, sym, ap, _∙_}
+use mathlib.Core.Bool.{true}
+use mathlib.Core.List.{List}
+use Prim.Native.Nat.{ℕ}
+use lib.ListN.{length}
+use borrow.Author.Needs.{needs}
+use borrow.Author.Tests.{not-true, not-false}
+use Rattle.bytes.specs.Words.{AllBytes}
+use Rattle.transmitters.specs.Conversion.{convertedRow}
+use Rattle.replica.specs.declared.Replica.{Replica}
+use Rattle.replica.specs.Calls.{tickOutcome}
+use Rattle.replica.proofs.Lent.{settings-lent}
+use Rattle.records.specs.Lengths.{recordLength}
+use Rattle.records.specs.Reading.{layoutOk, isRecord}
+use Rattle.records.proofs.IsRecord.{layout-length, no-layout}
+use Rattle.winder.proofs.Stepped.{
+  refused-record,
+  refused-areas,
+  parts-read,
+  Stands,
+  stands,
+  stands-settings,
+  stands-n,
+  stands-length,
+  stands-room,
+  tick-stepped,
+}
+use Rattle.winder.proofs.replica_calls.winder_tick.Statement.{statement}
+use Rattle.winder.proofs.replica_calls.winder_tick.Tie as tie
+
+-- how the call started
+abbrev first : tie.After-layout-ok → tie.After-slice-known
+first c = c .before .before .before .before .before
+
+abbrev start : tie.After-layout-ok → tie.Start
+start c = first c .before
+
+-- the bytes that it reads
+abbrev stored : tie.After-layout-ok → List ℕ
+stored c = start c .args .replica .now
+
+-- they are of the layout
+laid-out : (c : tie.Else1) → layoutOk (stored (c .before)) ≡ true
+laid-out c = sym (c .before .layout-ok .ensures) ∙ not-false _ (c .if1 .left)
+
+long : (c : tie.Else1) → length (stored (c .before)) ≡ recordLength
+long c = layout-length _ (laid-out c)
+
+-- where the settings were read, and the layout before them
+abbrev settled : tie.After-read-held → tie.After-settings-in
+settled c = c .before .before .before .before .before .before .before .before .before
+
+abbrev laid : tie.After-read-held → tie.Else1
+laid c = settled c .before .before
+
+is-record : (c : tie.After-read-held) → c .read-held .result .ok ≡ isRecord (stored (laid c .before))
+is-record c = parts-read _ (settled c .settings-in .ensures) (laid-out (laid c)) (c .read-held .ensures .0)
+
+passed : (c : tie.Else2) → isRecord (stored (laid (c .before .before) .before)) ≡ true
+passed c = sym (is-record (c .before .before)) ∙ not-false _ (c .if2 .left)
+
+-- the replica that is read
+abbrev found : tie.After-read-held → Replica
+found c = record { settings = settled c .settings-in .result; held = c .read-held .result .held }
+
+abbrev origin : tie.Else3 → tie.After-read-held
+origin c = c .before .before .before .before
+
+stand : (c : tie.Else3) → let a = start (laid (origin c) .before) .args in Stands (a .replica .now) (found (origin c)) (a .frame .now) (a .command .now)
+stand c =
+    let r = origin c in
+    stands _ (settled r .settings-in .ensures) (passed (c .before .before)) (r .read-held .ensures .1) (sym (c .before .short-area .ensures) ∙ c .if3 .left)
+
+bytes : (c : tie.After-slice-known) → AllBytes (c .before .args .replica .now)
+unfolding AllBytes
+bytes c = λ i. c .slice-known .given i .fits
+
+layout-ok-requires : tie.Need-layout-ok-requires
+layout-ok-requires c κs = search needs
+
+same-length : tie.Need-same-length
+same-length c = search needs
+
+returns : tie.Need-returns
+returns c =
+    let a = start (c .before) .args in
+    refused-record (a .replica .now) (a .frame .now) (a .command .now) _
+    (no-layout _ (sym (c .before .layout-ok .ensures) ∙ not-true _ (c .if1 .taken)))
+
+settings-in-requires : tie.Need-settings-in-requires
+settings-in-requires c κs = long (c .before)
+
+read-held-requires : tie.Need-read-held-requires
+read-held-requires c κs = long (c .before .before .before .before .before .before .before .before .before .before)
+
+same-length-2 : tie.Need-same-length-2
+same-length-2 c = search needs
+
+returns-2 : tie.Need-returns-2
+returns-2 c =
+    let r = c .before .before in
+    let a = start (laid r .before) .args in
+    refused-record (a .replica .now) (a .frame .now) (a .command .now) _ (sym (is-record r) ∙ not-true _ (c .if2 .taken))
+
+short-area-requires : tie.Need-short-area-requires
+short-area-requires c κs = search needs
+
+same-length-3 : tie.Need-same-length-3
+same-length-3 c = search needs
+
+returns-3 : tie.Need-returns-3
+unfolding tickOutcome
+returns-3 c =
+    let a = start (laid (c .before .before .before .before) .before) .args in
+    refused-areas (a .replica .now) (a .frame .now) (a .command .now) _ (passed (c .before .before)) (sym (c .before .short-area .ensures) ∙ c .if3 .taken)
+
+readings-of-requires : tie.Need-readings-of-requires
+readings-of-requires c κs = search needs
+
+convert-row-requires : tie.Need-convert-row-requires
+convert-row-requires c κs = search needs
+
+tick-requires : tie.Need-tick-requires
+tick-requires c κs =
+    let e = c .before .before .before .before .before .before .before .before .before .before in
+    let s = stand e in (settings-lent (found (origin e) .settings) ∙ stands-settings s, stands-room s .frame-room)
+
+leave-requires : tie.Need-leave-requires
+leave-requires c κs = let s = stand (c .before .before .before .before .before .before .before .before .before .before .before .before .before .before .before) in (stands-n s, stands-length s)
+
+same-length-4 : tie.Need-same-length-4
+same-length-4 c = search needs
+
+same-length-5 : tie.Need-same-length-5
+same-length-5 c = search needs
+
+returns-4 : tie.Need-returns-4
+returns-4 c =
+    let e = c .before .before .before .before .before .before .before .before .before .before .before .before .before .before .before .before .before .before in
+    let f = first (laid (origin e) .before) in
+    let l = c .before .before .leave .ensures in
+    let y = c .before .before .before .before .before .before .before .before .before .before .before .before .before .before .before .before .convert-row .ensures ∙ ap convertedRow (c .before .before .before .before .before .before .before .before .before .before .before .before .before .before .before .before .before .readings-of .ensures) in
+    tick-stepped (stand e) (bytes f) (l .0) (l .1 .0) (l .1 .1) y (c .before .before .before .before .before .before .before .tick .ensures (f .before .args .command .now))
+
+pub winder-tick-spec : {M : Type 1} → statement M
+winder-tick-spec =
+    tie.close
+    (tie.spec
+    layout-ok-requires
+    same-length
+    returns
+    settings-in-requires
+    read-held-requires
+    same-length-2
+    returns-2
+    short-area-requires
+    same-length-3
+    returns-3
+    readings-of-requires
+    convert-row-requires
+    tick-requires
+    leave-requires
+    same-length-4
+    same-length-5
+    returns-4)

@@ -1,0 +1,275 @@
+// Making a replica, and its three steps. A replica is its record.
+ghost use mathlib.Core.Path.{_≡_};
+ghost use mathlib.Core.List.{[], _∷_, _++_};
+ghost use Prim.Native.Nat.{_≤_};
+ghost use lib.ListN.{length, take};
+ghost use Rattle.lists.specs.Choice.{pick};
+ghost use Rattle.bytes.specs.Areas.{over};
+ghost use Rattle.scram.specs.Answers.{answered};
+ghost use Rattle.transmitters.specs.Conversion.{convertedRow};
+ghost use Rattle.transmitters.specs.Numbers.{readingsOf};
+ghost use Rattle.replica.specs.Calls.{tickOutcome, giveUpOutcome, arriveOutcome, freshOf};
+ghost use Rattle.records.specs.Lengths.{settingsLength, recordLength};
+ghost use Rattle.records.specs.HeldPart.{heldBytes};
+ghost use Rattle.records.specs.Recording.{recordedHeld, recordAnswer, recorded};
+ghost use Rattle.records.specs.Reading.{isDone};
+ghost use Rattle.winder.specs.Answers.{numberOf};
+ghost use Rattle.winder.specs.ReplicaAreas.{settingsOf, stepAt, Steps};
+use crate::answers::replica_number;
+use records::conditions::layout_ok;
+use records::reading::is_done;
+use records::reading::read_held;
+use records::recording::record_held;
+use records::recording::write;
+use records::settings_part::settings_in;
+use replica::Given;
+use replica::Replica;
+use replica::Settings;
+use replica::fit;
+use replica::refusals::short_area;
+use transmitters::convert_row;
+use transmitters::numbers::readings_of;
+
+// The settings in a caller's areas.
+fn settings_of(
+    n: usize,
+    m: usize,
+    p: usize,
+    a: &[i32; 36],
+    l: &[i32; 24],
+    c: &[i32; 24],
+    k: &[i32; 24],
+    low: &[i32; 4],
+    high: &[i32; 4],
+    start: &[i32; 6],
+    boxes: u8,
+    own: u8,
+) -> Settings
+    ensures { λ r. ⌜ r ≡ settingsOf n m p (now (a .entry)) (now (l .entry)) (now (c .entry)) (now (k .entry)) (now (low .entry)) (now (high .entry)) (now (start .entry)) boxes own ⌝ }
+{
+    let a = *a;
+    let l = *l;
+    let c = *c;
+    let k = *k;
+    let low = *low;
+    let high = *high;
+    let start = *start;
+    let law = law::Settings {
+        n,
+        m,
+        p,
+        a,
+        l,
+        c,
+        k,
+        low,
+        high,
+        start,
+    };
+    Settings { boxes, own, law }
+}
+
+// Makes a fresh replica.
+#[no_mangle]
+pub extern "C" fn winder_make(
+    n: usize,
+    m: usize,
+    p: usize,
+    a: &[i32; 36],
+    l: &[i32; 24],
+    c: &[i32; 24],
+    k: &[i32; 24],
+    low: &[i32; 4],
+    high: &[i32; 4],
+    start: &[i32; 6],
+    boxes: u8,
+    own: u8,
+    replica: &mut [u8],
+) -> u32
+    ensures answer { λ r. ⌜ r ≡ numberOf (recordAnswer (settingsOf n m p (now (a .entry)) (now (l .entry)) (now (c .entry)) (now (k .entry)) (now (low .entry)) (now (high .entry)) (now (start .entry)) boxes own) (length (now (replica .entry)))) ⌝ }
+    ensures replica { λ _. ⌜ now (replica .exit) ≡ over (recorded (freshOf (settingsOf n m p (now (a .entry)) (now (l .entry)) (now (c .entry)) (now (k .entry)) (now (low .entry)) (now (high .entry)) (now (start .entry)) boxes own)) (length (now (replica .entry)))) (now (replica .entry)) ⌝ }
+{
+    let made = Replica::make(settings_of(n, m, p, a, l, c, k, low, high, start, boxes, own));
+    let answer = made.answer;
+    if !is_done(answer) {
+        return replica_number(answer);
+    }
+    let fresh = made.replica;
+    replica_number(write(fresh, replica))
+}
+
+// What a step leaves: the lengths written and, where it was done, the new record, whose first part stays as it is.
+fn leave(n: usize, m: usize, given: Given, replica: &mut [u8], lengths: &mut [usize; 2]) -> u32
+    requires { ⌜ (n ≤ 6) × (length (now replica) ≡ recordLength) ⌝ }
+    ensures answer { λ r. ⌜ r ≡ numberOf (answered (given .answer)) ⌝ }
+    ensures replica { λ _. ⌜ now (replica .exit) ≡ pick (isDone (answered (given .answer))) (take settingsLength (now (replica .entry)) ++ heldBytes (recordedHeld n m (given .held))) (now (replica .entry)) ⌝ }
+    ensures lengths { λ _. ⌜ now (lengths .exit) ≡ given .frame ∷ given .command ∷ [] ⌝ }
+{
+    *lengths = [given.frame, given.command];
+    let answer = given.answer;
+    if !is_done(answer) {
+        return replica_number(answer);
+    }
+    record_held(n, m, given.held, replica);
+    0
+}
+
+// A tick with readings, each by its kind and its bits.
+#[no_mangle]
+pub extern "C" fn winder_tick(
+    replica: &mut [u8],
+    kinds: &[u8; 4],
+    bits: &[u32; 4],
+    frame: &mut [u8],
+    command: &mut [u8],
+    lengths: &mut [usize; 2],
+) -> u32
+    ensures { λ r. ⌜ Steps (now (replica .entry))
+        (stepAt (now (replica .entry)) (λ x. tickOutcome x (convertedRow (readingsOf (now (kinds .entry)) (now (bits .entry)))) (length (now (frame .entry))) (length (now (command .entry)))))
+        r (now (replica .exit)) (now (lengths .exit)) (now (frame .entry)) (now (frame .exit)) (now (command .entry)) (now (command .exit)) ⌝ }
+{
+    *lengths = [0, 0];
+    if !layout_ok(replica) {
+        return 15;
+    }
+    let settings = settings_in(replica);
+    let part = read_held(
+        settings.boxes,
+        settings.own,
+        settings.law.n,
+        settings.law.m,
+        settings.law.p,
+        &settings.law.a,
+        &settings.law.l,
+        &settings.law.c,
+        &settings.law.k,
+        &settings.law.low,
+        &settings.law.high,
+        replica,
+    );
+    if !part.ok {
+        return 15;
+    }
+    if short_area(frame.len(), command.len()) {
+        return 5;
+    }
+    let converted = convert_row(readings_of(kinds, bits));
+    let given = fit::tick(
+        settings.boxes,
+        settings.own,
+        settings.law.n,
+        settings.law.m,
+        settings.law.p,
+        &settings.law.a,
+        &settings.law.l,
+        &settings.law.c,
+        &settings.law.k,
+        &settings.law.low,
+        &settings.law.high,
+        part.held,
+        converted,
+        frame,
+    );
+    leave(settings.law.n, settings.law.m, given, replica, lengths)
+}
+
+// The view is given up.
+#[no_mangle]
+pub extern "C" fn winder_give_up(
+    replica: &mut [u8],
+    frame: &mut [u8],
+    command: &mut [u8],
+    lengths: &mut [usize; 2],
+) -> u32
+    ensures { λ r. ⌜ Steps (now (replica .entry))
+        (stepAt (now (replica .entry)) (λ x. giveUpOutcome x (length (now (frame .entry))) (length (now (command .entry)))))
+        r (now (replica .exit)) (now (lengths .exit)) (now (frame .entry)) (now (frame .exit)) (now (command .entry)) (now (command .exit)) ⌝ }
+{
+    *lengths = [0, 0];
+    if !layout_ok(replica) {
+        return 15;
+    }
+    let settings = settings_in(replica);
+    let part = read_held(
+        settings.boxes,
+        settings.own,
+        settings.law.n,
+        settings.law.m,
+        settings.law.p,
+        &settings.law.a,
+        &settings.law.l,
+        &settings.law.c,
+        &settings.law.k,
+        &settings.law.low,
+        &settings.law.high,
+        replica,
+    );
+    if !part.ok {
+        return 15;
+    }
+    if short_area(frame.len(), command.len()) {
+        return 5;
+    }
+    let n = settings.law.n;
+    let m = settings.law.m;
+    let given = fit::give_up(settings.boxes, settings.own, n, m, part.held, frame);
+    leave(n, m, given, replica, lengths)
+}
+
+// Bytes that arrive as a frame.
+#[no_mangle]
+pub extern "C" fn winder_arrive(
+    replica: &mut [u8],
+    bytes: &[u8],
+    frame: &mut [u8],
+    command: &mut [u8],
+    lengths: &mut [usize; 2],
+) -> u32
+    ensures { λ r. ⌜ Steps (now (replica .entry))
+        (stepAt (now (replica .entry)) (λ x. arriveOutcome x (now (bytes .entry)) (length (now (frame .entry))) (length (now (command .entry)))))
+        r (now (replica .exit)) (now (lengths .exit)) (now (frame .entry)) (now (frame .exit)) (now (command .entry)) (now (command .exit)) ⌝ }
+{
+    *lengths = [0, 0];
+    if !layout_ok(replica) {
+        return 15;
+    }
+    let settings = settings_in(replica);
+    let part = read_held(
+        settings.boxes,
+        settings.own,
+        settings.law.n,
+        settings.law.m,
+        settings.law.p,
+        &settings.law.a,
+        &settings.law.l,
+        &settings.law.c,
+        &settings.law.k,
+        &settings.law.low,
+        &settings.law.high,
+        replica,
+    );
+    if !part.ok {
+        return 15;
+    }
+    if short_area(frame.len(), command.len()) {
+        return 5;
+    }
+    let given = fit::arrive(
+        settings.boxes,
+        settings.own,
+        settings.law.n,
+        settings.law.m,
+        settings.law.p,
+        &settings.law.a,
+        &settings.law.l,
+        &settings.law.c,
+        &settings.law.k,
+        &settings.law.low,
+        &settings.law.high,
+        part.held,
+        bytes,
+        frame,
+        command,
+    );
+    leave(settings.law.n, settings.law.m, given, replica, lengths)
+}

@@ -1,0 +1,42 @@
+//! The second implementation's calls on records, with what the C calls are handed and by their names. None is inlined, so that callgrind has each by
+//! name.
+
+use second::calls;
+use second::law::Settings;
+use second::replica::Areas;
+
+#[inline(never)]
+pub fn make(settings: &Settings, boxes: u8, own: u8, area: &mut [u8]) -> u32 {
+    calls::make(boxes, own, *settings, area)
+}
+
+#[inline(never)]
+pub fn tick(
+    record: &mut [u8],
+    kinds: &[u8; 4],
+    bits: &[u32; 4],
+    areas: Areas,
+    lengths: &mut [usize; 2],
+) -> u32 {
+    calls::tick(record, kinds, bits, areas, lengths)
+}
+
+#[inline(never)]
+pub fn give_up(record: &mut [u8], areas: Areas, lengths: &mut [usize; 2]) -> u32 {
+    calls::give_up(record, areas, lengths)
+}
+
+#[inline(never)]
+pub fn arrive(record: &mut [u8], bytes: &[u8], areas: Areas, lengths: &mut [usize; 2]) -> u32 {
+    calls::arrive(record, bytes, areas, lengths)
+}
+
+#[inline(never)]
+pub fn record(record: &[u8], area: &mut [u8]) -> u32 {
+    calls::copy(record, area)
+}
+
+#[inline(never)]
+pub fn r#return(record: &[u8], missed: u32, area: &mut [u8]) -> u32 {
+    calls::return_to(record, missed, area)
+}

@@ -1,7 +1,7 @@
 -- The proof of demand 1: laws of answers, the protocol's steps, the calls of each crate, and the theorem.
-mod Numbers
-mod Outcomes
-mod Replica
+pub mod Numbers
+pub mod Outcomes
+pub mod Replica
 mod Law
 mod Frames
 mod Pages

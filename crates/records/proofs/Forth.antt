@@ -1,5 +1,5 @@
 -- What is recorded of a replica in order is read again. Assumes nothing.
-use mathlib.Core.Path.{_≡_, sym, ap, _∙_, subst}
+use mathlib.Core.Path.{_≡_, refl, sym, ap, _∙_, subst}
 use mathlib.Core.Bool.{true}
 use mathlib.Core.List.{List, _++_}
 use mathlib.Core.Logic.{_⊎_, inl, inr}
@@ -34,37 +34,45 @@ use Rattle.records.proofs.Facts.{bases-facts, HeldFacts, RecordFacts}
 
 -- ---- a record keeps all of what is held
 
-module _ (N n m : ℕ) where
-  -- of the best estimate heard
-  best-kept : (b : Best) → carriedEstimate n m (b .estimate) ≡ b .estimate → (b ≡ noBest) ⊎ BestOf N b → recordedBest n m b ≡ b
+module _ (n m : ℕ) where
+  -- of a best estimate heard
+  pub heard-kept : (b : Best) → b .any ≡ true → carriedEstimate n m (b .estimate) ≡ b .estimate → recordedBest n m b ≡ b
   unfolding recordedBest
-  best-kept b w (inl none) = pick-false (b .any) _ _ (ap (λ (t : Best). t .any) none) ∙ sym none
-  best-kept b w (inr of) =
-      pick-true (b .any) _ _ (of .any)
+  heard-kept b any w =
+      pick-true (b .any) _ _ any
       ∙ (λ i. record { any = b .any; «box_number» = b .«box_number»; «base_view» = b .«base_view»; «base_period» = b .«base_period»; estimate = w i })
 
-  held-kept : (h : Held) → HeldInOrder N n m h → recordedHeld n m h ≡ h
+  -- of none
+  pub none-kept : recordedBest n m noBest ≡ noBest
+  unfolding recordedBest
+  none-kept = pick-false _ _ _ refl
+
+  pub best-kept : (N : ℕ) (b : Best) → carriedEstimate n m (b .estimate) ≡ b .estimate → (b ≡ noBest) ⊎ BestOf N b → recordedBest n m b ≡ b
+  best-kept N b w (inl none) = subst (λ (t : Best). recordedBest n m t ≡ t) (sym none) none-kept
+  best-kept N b w (inr of) = heard-kept b (of .any) w
+
+  pub held-kept : (h : Held) → carriedEstimate n m (h .estimate) ≡ h .estimate → recordedBest n m (h .best) ≡ h .best → recordedHeld n m h ≡ h
   unfolding recordedHeld
-  held-kept h o =
-      let best = best-kept (h .best) (o .bestEstimate .whole) (o .best) in
-      λ i. record {
-        period = h .period;
-        view = h .view;
-        «base_view» = h .«base_view»;
-        «view_change» = h .«view_change»;
-        decided = h .decided;
-        estimate = o .estimate .whole i;
-        «base_period» = h .«base_period»;
-        heard = h .heard;
-        best = best i;
-      }
+  held-kept h estimate best = λ i. record {
+    period = h .period;
+    view = h .view;
+    «base_view» = h .«base_view»;
+    «view_change» = h .«view_change»;
+    decided = h .decided;
+    estimate = estimate i;
+    «base_period» = h .«base_period»;
+    heard = h .heard;
+    best = best i;
+  }
 
 -- so the record of a replica in order is its settings and what it holds
 pub recorded-whole : (r : Replica) → InOrder r → recordBytes r ≡ settingsBytes (r .settings) ++ heldBytes (r .held)
 unfolding recordBytes
 recorded-whole r o =
+    let law = r .settings .law in
+    let h = o .held in
     ap (λ (h : Held). settingsBytes (r .settings) ++ heldBytes h)
-    (held-kept (r .settings .boxes) (r .settings .law .n) (r .settings .law .m) (r .held) (o .held))
+    (held-kept (law .n) (law .m) (r .held) (h .estimate .whole) (best-kept (law .n) (law .m) (r .settings .boxes) (r .held .best) (h .bestEstimate .whole) (h .best)))
 
 -- ---- what is held, as its bytes have it
 

@@ -1,4 +1,4 @@
--- Laws of the part of what is held: its length, what stands in it, and both ways of the round trip. Assumes nothing.
+-- Laws of the part of what is held: what stands in it, and both ways of the round trip. Assumes nothing.
 use mathlib.Core.Path.{_≡_, refl, sym, ap, _∙_}
 use mathlib.Core.Bool.{Bool, true, false}
 use mathlib.Core.List.{List, [], _∷_, _++_, append-assoc, append-nil, map}
@@ -16,22 +16,22 @@ use Rattle.lists.proofs.Booleans.{both}
 use Rattle.lists.proofs.Below.{all-of, all-at}
 use Rattle.lists.proofs.Places.{blank-at}
 use Rattle.bytes.specs.Words.{AllBytes, littleEndian, spelled, part, numberAt, twosComplement, valuesBytes}
-use Rattle.bytes.proofs.Numbers.{length-littleEndian, spelled-littleEndian, number-back}
+use Rattle.bytes.proofs.Numbers.{spelled-littleEndian, number-back}
 use Rattle.estimate.specs.declared.Estimate.{Estimate}
 use Rattle.estimate.specs.Fields.{TypedEstimate, carriedEstimate}
 use Rattle.estimate.specs.Marks.{bit, marksByte, marksBelow}
 use Rattle.estimate.specs.Format.{stateBytes, readingsBytes, estimateBytes, writable}
 use Rattle.estimate.specs.Reading.{readingsOk, readingsPart, estimateAt, estimateOk}
-use Rattle.estimate.proofs.Lengths.{length-state, length-estimate}
+use Rattle.estimate.proofs.Lengths.{length-state}
 use Rattle.estimate.proofs.PresentMarks.{bit-le}
 use Rattle.estimate.proofs.EachPart.{normalised-writable}
 use Rattle.estimate.proofs.RoundTrip.{estimate-read, estimate-written}
-use Rattle.replica.specs.declared.Best.{Best}
 use Rattle.replica.specs.declared.Held.{Held}
-use Rattle.records.specs.Lengths.{settingsLength, heldLength, recordLength}
+use Rattle.records.specs.Lengths.{settingsLength, recordLength}
 use Rattle.records.specs.HeldPart.{heardBytes, bestBytes, heldBytes, markAt, heardAt, bestAt, heldAt}
 use Rattle.records.specs.Recording.{noBest}
 use Rattle.records.specs.Reading.{valuesOk, bytesMean, zeroAt}
+use Rattle.records.proofs.PartLengths.{FullEstimate, full, length-own, length-held}
 use Rattle.records.proofs.Heard.{length-heard, mark-forth, bit-at, marks-read, bit-back, marks-written}
 
 -- what the types of the fields say, and estimates as frames of six states and four readings carry them
@@ -48,40 +48,6 @@ pub record TypedHeld (h : Held) : Type 0 where
   pub best-base-period : h .best .«base_period» < 4294967296
   pub best-estimate : TypedEstimate (h .best .estimate)
   pub best-carried : carriedEstimate 6 4 (h .best .estimate) ≡ h .best .estimate
-
--- ---- lengths
-
--- the counters, the marks and the boxes heard
-pub length-front : (h : Held) → length (h .heard) ≡ 10
-    → length (littleEndian 4 (h .period) ++ littleEndian 4 (h .view) ++ littleEndian 4 (h .«base_view») ++ littleEndian 4 (h .«base_period»)
-    ++ (bit (h .«view_change») ∷ bit (h .decided) ∷ []) ++ heardBytes (h .heard)) ≡ 28
-unfolding littleEndian
-length-front h ten = omega (arith, length-heard (h .heard) ten)
-
--- an estimate with as many places as bytes of six states and four readings carry
-pub record Sized (e : Estimate) : Type 0 where
-  pub six : length (e .state) ≡ 6
-  pub four : length (e .readings .values) ≡ 4
-
--- its type says so
-pub sized : {e : Estimate} → TypedEstimate e → Sized e
-sized t = record { six = t .state-length; four = t .values-length }
-
--- the held estimate, or the best one's
-pub length-own : (e : Estimate) → Sized e → length (estimateBytes 6 4 e) ≡ 41
-length-own e z = length-estimate 6 4 e (omega (arith, z .six)) (omega (arith, z .four))
-
--- the best estimate heard, with what stands before it
-pub length-best : (b : Best) → Sized (b .estimate) → length (bestBytes b) ≡ 51
-unfolding bestBytes littleEndian
-length-best b z = omega (arith, length-own (b .estimate) z)
-
--- the whole part
-pub length-heldBytes : (h : Held) → TypedHeld h → length (heldBytes h) ≡ heldLength
-unfolding heldBytes
-length-heldBytes h t =
-    simp (length-append, length-littleEndian)
-    (omega (arith, length-heard (h .heard) (t .heard), length-own (h .estimate) (sized (t .estimate)), length-own (h .best .estimate) (sized (t .best-estimate))))
 
 -- ---- what stands at an offset, by what stands after one that is not above it
 
@@ -103,10 +69,10 @@ estimate-after : (w r : List ℕ) (s : ℕ) (e : Estimate) → TypedEstimate e �
     → estimateAt 6 4 w s ≡ e
 estimate-after w r s e t c room there =
     estimate-read 6 4 e t (omega arith) (omega arith) (carried-writable e c) w s room
-    (ap (take 41) there ∙ take-at (estimateBytes 6 4 e) r 41 (length-own e (sized t))) ∙ c
+    (ap (take 41) there ∙ take-at (estimateBytes 6 4 e) r 41 (length-own e (full t))) ∙ c
 
 -- its byte of marks
-estimate-marks : (e : Estimate) (r : List ℕ) → Sized e → getD (estimateBytes 6 4 e ++ r) 24 0 ≡ marksByte (e .readings)
+estimate-marks : (e : Estimate) (r : List ℕ) → FullEstimate e → getD (estimateBytes 6 4 e ++ r) 24 0 ≡ marksByte (e .readings)
 unfolding estimateBytes readingsBytes
 estimate-marks e r z =
     List·getD-append (estimateBytes 6 4 e) r 0 24 (omega (arith, length-own e z))
@@ -134,7 +100,7 @@ module _ (h : Held) (before : List ℕ) (start : length before ≡ settingsLengt
 
   -- with the settings' part they are as long as a record
   pub length-whole : length (before ++ heldBytes h) ≡ recordLength
-  length-whole = length-append before (heldBytes h) ∙ omega (arith, start, length-heldBytes h t)
+  length-whole = length-append before (heldBytes h) ∙ omega (arith, start, length-held h (t .heard) (full (t .estimate)) (full (t .best-estimate)))
 
   from-496 : drop 496 whole ≡ heldBytes h
   from-496 = drop-at before (heldBytes h) 496 start
@@ -148,7 +114,7 @@ module _ (h : Held) (before : List ℕ) (start : length before ≡ settingsLengt
   from-524 = sym (drop-drop 12 512 whole) ∙ ap (drop 12) from-512 ∙ drop-at (map bit marks) (own ++ best) 12 (omega (arith, length-heard (h .heard) (t .heard)))
 
   from-565 : drop 565 whole ≡ best
-  from-565 = sym (drop-drop 41 524 whole) ∙ ap (drop 41) from-524 ∙ drop-at own best 41 (length-own (h .estimate) (sized (t .estimate)))
+  from-565 = sym (drop-drop 41 524 whole) ∙ ap (drop 41) from-524 ∙ drop-at own best 41 (length-own (h .estimate) (full (t .estimate)))
 
   from-575 : drop 575 whole ≡ estimateBytes 6 4 (h .best .estimate)
   unfolding bestBytes littleEndian
@@ -178,13 +144,13 @@ module _ (h : Held) (before : List ℕ) (start : length before ≡ settingsLengt
 
   -- the byte of the estimate's present marks
   pub marks-548 : getD (before ++ heldBytes h) 548 0 ≡ marksByte (h .estimate .readings)
-  marks-548 = byte-after whole (own ++ best) 524 24 from-524 ∙ estimate-marks (h .estimate) best (sized (t .estimate))
+  marks-548 = byte-after whole (own ++ best) 524 24 from-524 ∙ estimate-marks (h .estimate) best (full (t .estimate))
 
   -- the byte of the best estimate's
   pub marks-599 : getD (before ++ heldBytes h) 599 0 ≡ marksByte (h .best .estimate .readings)
   marks-599 =
       byte-after whole (estimateBytes 6 4 (h .best .estimate) ++ []) 575 24 (from-575 ∙ sym (append-nil _))
-      ∙ estimate-marks (h .best .estimate) [] (sized (t .best-estimate))
+      ∙ estimate-marks (h .best .estimate) [] (full (t .best-estimate))
 
   -- where there is no best estimate, all that a record has of one is 0
   pub no-best-zero : h .best ≡ noBest → zeroAt (before ++ heldBytes h) 566 50 ≡ true
@@ -263,6 +229,16 @@ pub any-small : (b : List ℕ) → bytesMean b ≡ true → getD b 565 0 ≤ 1
 unfolding bytesMean
 any-small b mean = leb-true _ 1 (both (allBelow 12 (λ i. leb (getD b (512 + i) 0) 1)) _ mean .1)
 
+-- those of mode, of decided and of the boxes heard
+mark-small : (b : List ℕ) → bytesMean b ≡ true → (j : ℕ) → j < 12 → getD b (512 + j) 0 ≤ 1
+unfolding bytesMean
+mark-small b mean j l =
+    leb-true _ 1 (all-at (λ i. leb (getD b (512 + i) 0) 1) 12 j (both (allBelow 12 (λ i. leb (getD b (512 + i) 0) 1)) _ mean .0) l)
+
+-- those of the boxes heard
+pub heard-small : (b : List ℕ) → bytesMean b ≡ true → (j : ℕ) → j < 10 → getD b (514 + j) 0 ≤ 1
+heard-small b mean j l = let e : 514 + j ≡ 512 + (2 + j) = omega arith in rw e (mark-small b mean (2 + j) (omega arith))
+
 module _ (b : List ℕ) (bytes : AllBytes b) (long : length b ≡ recordLength) where
   estimate-ok : (at : ℕ) → getD b (at + 24) 0 < 16 → valuesOk (estimateAt 6 4 b at) ≡ true → estimateOk 6 4 b at ≡ true
   unfolding estimateOk readingsOk marksBelow valuesOk estimateAt
@@ -279,10 +255,6 @@ module _ (b : List ℕ) (bytes : AllBytes b) (long : length b ≡ recordLength) 
   number-piece s i room = number-back b (s + i) 4 bytes (omega (arith, long)) ∙ shift b s i 4
 
   module _ (mean : bytesMean b ≡ true) where
-    mark-small : (j : ℕ) → j < 12 → getD b (512 + j) 0 ≤ 1
-    unfolding bytesMean
-    mark-small j l = leb-true _ 1 (all-at (λ i. leb (getD b (512 + i) 0) 1) 12 j (both (allBelow 12 (λ i. leb (getD b (512 + i) 0) 1)) _ mean .0) l)
-
     best-back : getD b 599 0 < 16 → valuesOk (estimateAt 6 4 b 575) ≡ true → bestBytes (bestAt b 565) ≡ part b 565 51
     unfolding bestBytes bestAt
     best-back small values =
@@ -296,13 +268,11 @@ module _ (b : List ℕ) (bytes : AllBytes b) (long : length b ≡ recordLength) 
 
     marks-back : bit (markAt b 512) ∷ bit (markAt b 513) ∷ [] ≡ part b 512 2
     unfolding filled
-    marks-back = marks-written b 512 2 (omega (arith, long)) (λ j l. mark-small j (omega arith))
+    marks-back = marks-written b 512 2 (omega (arith, long)) (λ j l. mark-small b mean j (omega arith))
 
     heard-back : heardBytes (heardAt b 514) ≡ part b 514 10
     unfolding heardAt
-    heard-back =
-        marks-written b 514 10 (omega (arith, long))
-        (λ j l. let e : 514 + j ≡ 512 + (2 + j) = omega arith in rw e (mark-small (2 + j) (omega arith)))
+    heard-back = marks-written b 514 10 (omega (arith, long)) (heard-small b mean)
 
     -- (b) Whatever reading finds, writing it gives the very bytes that it was read from.
     pub held-written : getD b 548 0 < 16 → getD b 599 0 < 16 → valuesOk (heldAt b settingsLength .estimate) ≡ true

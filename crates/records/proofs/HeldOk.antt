@@ -22,7 +22,7 @@ use Rattle.estimate.specs.Marks.{isZero, marksBelow, absentZero}
 use Rattle.replica.specs.declared.Best.{Best}
 use Rattle.replica.specs.declared.Held.{Held}
 use Rattle.records.specs.Lengths.{settingsLength, recordLength}
-use Rattle.records.specs.HeldPart.{markAt, bestAt, heldAt}
+use Rattle.records.specs.HeldPart.{bestAt, heldAt}
 use Rattle.records.specs.Recording.{noBest}
 use Rattle.records.specs.Reading.{statesOk, zeroAt, isBox, bestOk, bytesMean, heardOk, basesOk, valuesOk, estimateOk, heldOk}
 use Rattle.records.proofs.Facts.{bases-facts, HeldFacts, held-facts, held-holds}
@@ -76,7 +76,10 @@ bases-hold : (h : Held) → leb (h .«base_view») (h .view) ≡ true → leb (h
 unfolding basesOk
 bases-hold h p q r s = also (also p q) (also r s)
 
-module _ (N n m : ℕ) (h : Held) (b : List ℕ) where
+module _ (N n m : ℕ) (b : List ℕ) where
+  abbrev h : Held
+  h = heldAt b settingsLength
+
   -- what is asked of the estimate
   abbrev pub ownParts : Bool
   ownParts = marksBelow m (getD b 548 0) && (leb (h .«base_view») (h .view) && (leb (h .«base_period») (h .period) && estimateOk n (h .estimate)))
@@ -160,26 +163,19 @@ module _ (N n m : ℕ) (h : Held) (b : List ℕ) where
     unfolding bestOk
     none-zero any f = sym (pick-false (h .best .any) (isBox N (h .best .«box_number»)) (zeroAt b 566 50) any) ∙ f .best
 
-    module _ (long : length b ≡ recordLength) (read : h ≡ heldAt b settingsLength) where
-      best-is : h .best ≡ bestAt b 565
-      unfolding heldAt
-      best-is = ap (λ (x : Held). x .best) read
-
-      any-is : h .best .any ≡ markAt b 565
-      unfolding bestAt
-      any-is = ap (λ (x : Best). x .any) best-is
-
+    module _ (long : length b ≡ recordLength) where
       -- there is no best estimate: its bytes decide
       pub without-best : getD b 565 0 ≡ 0 → zeroAt b 566 50 ≡ heldOk N n m h b
+      unfolding heldAt bestAt
       without-best e =
-          let mark = ne-eqb (getD b 565 0) 1 (λ (one : getD b 565 0 ≡ 1). omega arith) in
-          let any = any-is ∙ mark in
+          let any = ne-eqb (getD b 565 0) 1 (λ (one : getD b 565 0 ≡ 1). omega arith) in
           same (zeroAt b 566 50) (heldOk N n m h b)
-          (λ z. none any (best-is ∙ no-best b long z mark) (zero-byte b long z 33 (omega arith)) z)
+          (λ z. none any (no-best b long z any) (zero-byte b long z 33 (omega arith)) z)
           (λ t. none-zero any (held-facts N n m h b t))
 
       -- there is one: what is asked of it decides
       pub with-best : (getD b 565 0 ≡ 0 → ⊥) → otherParts ≡ heldOk N n m h b
+      unfolding heldAt bestAt
       with-best d =
-          let any = any-is ∙ eq-eqb (getD b 565 0) 1 (omega (arith, any-small b mean, d)) in
+          let any = eq-eqb (getD b 565 0) 1 (omega (arith, any-small b mean, d)) in
           same otherParts (heldOk N n m h b) (there any) (λ t. other-holds (held-facts N n m h b t) any)

@@ -5,7 +5,7 @@ use mathlib.Core.List.{List}
 use Prim.Native.Nat.{ℕ}
 use lib.Dec.{eqb}
 use lib.ListN.{length}
-use borrow.Author.Tests.{eqb-true, eq-eqb}
+use borrow.Author.Tests.{eqb-true}
 use Rattle.lists.proofs.Booleans.{both}
 use Rattle.lists.proofs.Choice.{pick-true, pick-false, pick-holds}
 use Rattle.scram.specs.Answers.{Done, Refused}
@@ -18,26 +18,14 @@ use Rattle.records.specs.HeldPart.{heldAt}
 use Rattle.records.specs.Reading.{isDone, replicaIn, layoutOk, settingsOk, heldOk, isRecord, readAnswer, readReplica}
 
 module _ (b : List ℕ) where
-  -- the last condition, of what is held
-  abbrev pub heldFits : Bool
-  heldFits = heldOk (settingsIn b .boxes) (settingsIn b .law .n) (settingsIn b .law .m) (heldAt b settingsLength) b
-
   -- bytes of the layout have a record's length
   pub layout-length : layoutOk b ≡ true → length b ≡ recordLength
   unfolding layoutOk
   layout-length e = eqb-true (length b) recordLength (both _ _ e .0)
 
-  -- ---- one condition fails
-
   pub no-layout : layoutOk b ≡ false → isRecord b ≡ false
   unfolding isRecord
   no-layout e = rw e
-
-  -- ---- none does
-
-  pub is-record : layoutOk b ≡ true → settingsRefusal (settingsIn b) ≡ 0 → heldFits ≡ true → isRecord b ≡ true
-  unfolding isRecord settingsOk
-  is-record l s h = rw (l, eq-eqb (settingsRefusal (settingsIn b)) 0 s, h)
 
   -- ---- the answer, and the replica
 
@@ -56,7 +44,7 @@ module _ (b : List ℕ) where
   -- the settings in a record stand
   pub record-stands : isRecord b ≡ true → settingsRefusal (replicaIn b .settings) ≡ 0
   unfolding isRecord settingsOk
-  record-stands e = eqb-true _ _ (both (settingsOk b) heldFits (both (layoutOk b) _ e .1) .0)
+  record-stands e = eqb-true _ _ (both (settingsOk b) _ (both (layoutOk b) _ e .1) .0)
 
   -- what reading looks at behind the layout: the settings s in the record, and what is held
   abbrev pub parts : Settings → Bool

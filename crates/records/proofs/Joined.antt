@@ -1,5 +1,5 @@
 -- Laws of bytes that are joined by `|`: what all of them are below. Assumes nothing.
-use mathlib.Core.Path.{_≡_, refl}
+use mathlib.Core.Path.{_≡_, refl, sym, ap₂, _∙_}
 use mathlib.Core.Bool.{Bool, true, false, _&&_}
 use Prim.Native.Nat.{ℕ, zero, suc, _^_}
 use native.Mathlib.Omega.{arith}
@@ -21,6 +21,10 @@ or-below k a b = by (ltb a (2 ^ k)) (ltb b (2 ^ k)) refl refl
 pub below-one : (x : ℕ) → ltb x 1 ≡ eqb x 0
 below-one zero = refl
 below-one (suc x) = rw (leb·suc-suc, leb·suc-zero, eqb·suc-zero)
+
+-- two joined are 0 exactly where both are
+pub or-zero : (a b : ℕ) → eqb (bitOr a b) 0 ≡ (eqb a 0 && eqb b 0)
+or-zero a b = sym (below-one (bitOr a b)) ∙ or-below 0 a b ∙ ap₂ (λ (s t : Bool). s && t) (below-one a) (below-one b)
 
 -- below 2^1
 pub below-two : (x : ℕ) → ltb x 2 ≡ leb x 1

@@ -1,8 +1,8 @@
--- Laws of records: the two parts, both ways; what is recorded and read; the round trip; and returning.
-pub mod SettingsLaws
+-- Laws of records: the two parts, both ways; what is recorded and read; the round trip; steps on what was read; and returning.
 pub mod Heard
-pub mod HeldLaws
 pub mod PartLengths
+pub mod SettingsLaws
+pub mod HeldLaws
 pub mod Joined
 pub mod IsRecord
 pub mod Recorded
@@ -13,5 +13,6 @@ pub mod Carried
 pub mod Forth
 pub mod Back
 pub mod RoundTrip
+pub mod Whole
 pub mod Examples
 pub mod ReturningLaws

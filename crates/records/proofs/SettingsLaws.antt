@@ -3,7 +3,7 @@ use mathlib.Core.Path.{_≡_, refl, sym, ap, _∙_}
 use mathlib.Core.List.{List, [], _∷_, _++_, append-assoc}
 use Prim.Native.Nat.{ℕ, _+_, _*_, _≤_}
 use native.Mathlib.Omega.{arith}
-use lib.ListN.{length, getD, take, drop, length-append, length-drop}
+use lib.ListN.{length, getD, take, drop, length-drop}
 use lib.Seq.{take-add, take-at, drop-at, drop-drop, getD-drop}
 use lib.IntN.{ℤ, pos}
 use Rattle.lists.specs.Places.{entry, filled}
@@ -12,30 +12,28 @@ use Rattle.lists.proofs.Places.{filled-same}
 use Rattle.bytes.specs.Words.{AllBytes, part, valuesBytes, valueAt}
 use Rattle.bytes.proofs.Numbers.{bytes-part, length-part, first-four}
 use Rattle.bytes.proofs.ValueLists.{length-valuesBytes, value-forth, values-back}
-use Rattle.law.specs.declared.Settings as Law
 use Rattle.replica.specs.declared.Settings.{Settings}
 use Rattle.records.specs.Lengths.{settingsLength, recordLength}
 use Rattle.records.specs.SettingsPart.{letter, version, headBytes, tablesBytes, settingsBytes, valuesAt, lawIn, settingsIn}
 use Rattle.records.specs.InOrder.{TypedSettings}
+use Rattle.records.proofs.PartLengths.{TypedTables, length-settings}
 
--- ---- lengths
+-- ---- the length
 
-pub length-head : (s : Settings) → length (headBytes s) ≡ 8
-unfolding headBytes
-length-head s = refl
-
--- the tables', from what their types say
-pub length-tables : (law : Law.Settings) → length (law .a) ≡ 36 → length (law .l) ≡ 24 → length (law .c) ≡ 24 → length (law .k) ≡ 24
-    → length (law .low) ≡ 4 → length (law .high) ≡ 4 → length (law .start) ≡ 6 → length (tablesBytes law) ≡ 488
-unfolding tablesBytes
-length-tables law a l c k low high start = simp (length-append, length-valuesBytes) (omega arith)
+-- what the types of the tables say is among what the types of the settings say
+typed-tables : {s : Settings} → TypedSettings s → TypedTables (s .law)
+typed-tables t = record {
+  a = t .a-length;
+  l = t .l-length;
+  c = t .c-length;
+  k = t .k-length;
+  low = t .low-length;
+  high = t .high-length;
+  start = t .start-length;
+}
 
 pub length-settingsBytes : (s : Settings) → TypedSettings s → length (settingsBytes s) ≡ settingsLength
-unfolding settingsBytes
-length-settingsBytes s t =
-    let tables =
-    length-tables (s .law) (t .a-length) (t .l-length) (t .c-length) (t .k-length) (t .low-length) (t .high-length) (t .start-length) in
-    rw length-append (omega (arith, length-head s, tables))
+length-settingsBytes s t = length-settings s (typed-tables t)
 
 -- ---- settings that were read are written again
 

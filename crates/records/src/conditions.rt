@@ -1,22 +1,24 @@
 // What refusal 15 looks at, one function for each condition.
 ghost use mathlib.Core.Path.{_≡_};
-ghost use mathlib.Core.Bool.{_&&_};
+ghost use mathlib.Core.Bool.{true, _&&_};
 ghost use Prim.Native.Nat.{ℕ, _+_, _^_, _≤_};
 ghost use lib.ListN.{length, getD};
 ghost use lib.Dec.{leb, ltb};
 ghost use Rattle.lists.specs.Below.{allBelow};
 ghost use Rattle.estimate.specs.Marks.{marksBelow};
 ghost use Rattle.records.specs.Lengths.{settingsLength, recordLength};
-ghost use Rattle.records.specs.HeldPart.{heldAt};
+ghost use Rattle.records.specs.HeldPart.{heardAt, heldAt};
 ghost use Rattle.records.specs.Reading.{layoutOk, statesOk, zeroAt, isBox, bytesMean, heardOk, estimateOk, heldOk};
+use crate::held_part::best_at;
+use crate::held_part::estimate_at;
 use crate::lengths::RECORD;
 use crate::settings_part::LETTER;
 use crate::settings_part::VERSION;
+use bytes::word::u32_at;
 use estimate::Estimate;
 use estimate::marks::absent_zero;
 use estimate::marks::marks_below;
 use replica::Best;
-use replica::Held;
 
 // The length, the letter, the version, and byte 7.
 pub fn layout_ok(bytes: &[u8]) -> bool
@@ -74,23 +76,22 @@ fn is_box(boxes: u8, j: u8) -> bool
     (1 <= j) & (j <= boxes)
 }
 
-// Every box heard is one of the group: no mark at place 0, and none above the number of boxes.
-fn heard_ok(boxes: u8, heard: [bool; 10]) -> bool
-    ensures { λ r. ⌜ r ≡ heardOk boxes heard ⌝ }
+// Every box heard is one of the group: no mark at place 0, and none above the number of boxes. The bytes are joined, so that there is no way out before
+// the end. A byte above 1 would be no mark, and yet not 0: so bytes_mean comes first.
+fn heard_ok(boxes: u8, bytes: &[u8]) -> bool
+    requires { ⌜ (length (now bytes) ≡ recordLength) × (bytesMean (now bytes) ≡ true) ⌝ }
+    ensures { λ r. ⌜ r ≡ heardOk boxes (heardAt (now (bytes .entry)) 514) ⌝ }
 {
-    let first = heard[0];
-    if first {
-        return false;
-    }
-    let mut j = (boxes as usize) + 1;
+    let last = boxes as usize;
+    let mut bits = bytes[514];
+    let mut j = 1;
     while j < 10 {
-        let mark = heard[j];
-        if mark {
-            return false;
+        if last < j {
+            bits = bits | bytes[514 + j];
         }
         j += 1;
     }
-    true
+    bits == 0
 }
 
 // A state's places from n on are 0.
@@ -170,30 +171,36 @@ fn other_ok(boxes: u8, n: usize, m: usize, marks: u8, view: u32, period: u32, be
     estimate_ok(n, e)
 }
 
-// What is asked of what is held, one condition after the other. A best estimate is looked at only where there is one: where there is none, its bytes are
-// 0, and nothing else is to be asked of it.
-pub(crate) fn held_ok(boxes: u8, n: usize, m: usize, held: Held, bytes: &[u8]) -> bool
-    requires { ⌜ (length (now bytes) ≡ recordLength) × (1 ≤ m) × (m ≤ 4) × (held ≡ heldAt (now bytes) settingsLength) ⌝ }
-    ensures { λ r. ⌜ r ≡ heldOk boxes n m held (now (bytes .entry)) ⌝ }
+// What is asked of what is held, one condition after the other. Each reads only the bytes that it asks about: reading all that is held first would take
+// longer. A best estimate is looked at only where there is one: where there is none, its bytes are 0, and nothing else is to be asked of it.
+pub(crate) fn held_ok(boxes: u8, n: usize, m: usize, bytes: &[u8]) -> bool
+    requires { ⌜ (length (now bytes) ≡ recordLength) × (1 ≤ m) × (m ≤ 4) ⌝ }
+    ensures { λ r. ⌜ r ≡ heldOk boxes n m (heldAt (now (bytes .entry)) settingsLength) (now (bytes .entry)) ⌝ }
 {
     if !bytes_mean(bytes) {
         return false;
     }
-    let heard = held.heard;
-    if !heard_ok(boxes, heard) {
+    if !heard_ok(boxes, bytes) {
         return false;
     }
-    let view = held.view;
-    let period = held.period;
-    let base_view = held.base_view;
-    let base_period = held.base_period;
-    let own = held.estimate;
-    if !own_ok(n, m, bytes[548], view, period, base_view, base_period, own) {
+    let view = u32_at(bytes, 500);
+    let period = u32_at(bytes, 496);
+    let own = estimate_at(bytes, 524);
+    if !own_ok(
+        n,
+        m,
+        bytes[548],
+        view,
+        period,
+        u32_at(bytes, 504),
+        u32_at(bytes, 508),
+        own,
+    ) {
         return false;
     }
     if bytes[565] == 0 {
         return zero_at(bytes, 566, 50);
     }
-    let best = held.best;
+    let best = best_at(bytes, 565);
     other_ok(boxes, n, m, bytes[599], view, period, best)
 }

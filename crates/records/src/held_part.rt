@@ -79,7 +79,7 @@ fn put_marks(view_change: bool, decided: bool, area: &mut [u8], at: usize)
 }
 
 // What is held, as it stands, at an offset.
-pub(crate) fn put_held(held: Held, area: &mut [u8], at: usize)
+pub fn put_held(held: Held, area: &mut [u8], at: usize)
     requires { ⌜ at + heldLength ≤ length (now area) ⌝ }
     ensures { λ _. ⌜ now (area .exit) ≡ put (now (area .entry)) at (heldBytes held) ⌝ }
 {
@@ -121,7 +121,7 @@ fn heard_at(bytes: &[u8], at: usize) -> [bool; 10]
 }
 
 // An estimate of six states and four readings, each from its own part.
-fn estimate_at(bytes: &[u8], at: usize) -> Estimate
+pub(crate) fn estimate_at(bytes: &[u8], at: usize) -> Estimate
     requires { ⌜ at + 41 ≤ length (now bytes) ⌝ }
     ensures { λ r. ⌜ r ≡ estimateAt 6 4 (now (bytes .entry)) at ⌝ }
 {
@@ -130,7 +130,7 @@ fn estimate_at(bytes: &[u8], at: usize) -> Estimate
     Estimate { state, readings }
 }
 
-fn best_at(bytes: &[u8], at: usize) -> Best
+pub(crate) fn best_at(bytes: &[u8], at: usize) -> Best
     requires { ⌜ at + 51 ≤ length (now bytes) ⌝ }
     ensures { λ r. ⌜ r ≡ bestAt (now (bytes .entry)) at ⌝ }
 {
@@ -146,7 +146,7 @@ fn best_at(bytes: &[u8], at: usize) -> Best
 }
 
 // What is held, at an offset.
-pub(crate) fn held_at(bytes: &[u8], at: usize) -> Held
+pub fn held_at(bytes: &[u8], at: usize) -> Held
     requires { ⌜ at + heldLength ≤ length (now bytes) ⌝ }
     ensures { λ r. ⌜ r ≡ heldAt (now (bytes .entry)) at ⌝ }
 {

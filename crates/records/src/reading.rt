@@ -15,7 +15,6 @@ use crate::conditions::layout_ok;
 use crate::held_part::held_at;
 use crate::lengths::SETTINGS;
 use crate::settings_part::settings_in;
-use replica::Held;
 use replica::Replica;
 use replica::Settings;
 use replica::refusals::settings_refusal;
@@ -25,12 +24,6 @@ use scram::Answer;
 pub struct Parsed {
     pub answer: Answer,
     pub replica: Replica,
-}
-
-// What is held in a record, and whether it may be.
-pub struct HeldRead {
-    pub ok: bool,
-    pub held: Held,
 }
 
 fn refused() -> Parsed
@@ -73,9 +66,9 @@ pub(crate) fn settings_refusal_of(settings: Settings) -> u8
     settings_refusal(settings.boxes, settings.own, checked)
 }
 
-// What is held in bytes of a record's length, and whether these settings stand and it is what a record may hold. The tables are lent: a step needs them,
-// and they are not copied once more.
-pub fn read_held<'a>(
+// Whether these settings stand, and bytes of a record's length hold what a record may. The tables are lent: a step needs them, and they are not copied
+// once more.
+pub fn parts_ok<'a>(
     boxes: u8,
     own: u8,
     n: usize,
@@ -88,20 +81,17 @@ pub fn read_held<'a>(
     low: &'a [i32; 4],
     high: &'a [i32; 4],
     bytes: &[u8],
-) -> HeldRead
+) -> bool
     requires { ⌜ length (now bytes) ≡ recordLength ⌝ }
-    ensures ok { λ r. ⌜ r .ok ≡ (eqb (settingsRefusal (record { boxes = boxes; own = own; law = settingsOf n m p (now (a .entry)) (now (l .entry)) (now (c .entry)) (now (k .entry)) (now (low .entry)) (now (high .entry)) })) 0
+    ensures { λ r. ⌜ r ≡ (eqb (settingsRefusal (record { boxes = boxes; own = own; law = settingsOf n m p (now (a .entry)) (now (l .entry)) (now (c .entry)) (now (k .entry)) (now (low .entry)) (now (high .entry)) })) 0
         && heldOk boxes n m (heldAt (now (bytes .entry)) settingsLength) (now (bytes .entry))) ⌝ }
-    ensures held { λ r. ⌜ r .held ≡ heldAt (now (bytes .entry)) settingsLength ⌝ }
 {
     let checked = law::tables::check(n, m, p, a, l, c, k, low, high);
     let number = settings_refusal(boxes, own, checked);
-    let held = held_at(bytes, SETTINGS);
     if number != 0 {
-        return HeldRead { ok: false, held };
+        return false;
     }
-    let ok = held_ok(boxes, n, m, held, bytes);
-    HeldRead { ok, held }
+    held_ok(boxes, n, m, bytes)
 }
 
 // Reads a record.
@@ -113,7 +103,7 @@ pub fn read(bytes: &[u8]) -> Parsed
         return refused();
     }
     let settings = settings_in(bytes);
-    let part = read_held(
+    let ok = parts_ok(
         settings.boxes,
         settings.own,
         settings.law.n,
@@ -127,10 +117,10 @@ pub fn read(bytes: &[u8]) -> Parsed
         &settings.law.high,
         bytes,
     );
-    if !part.ok {
+    if !ok {
         return refused();
     }
-    let held = part.held;
+    let held = held_at(bytes, SETTINGS);
     let replica = Replica { settings, held };
     Parsed {
         answer: Answer::Done,

@@ -2,11 +2,9 @@
 ghost use mathlib.Core.Path.{_≡_};
 ghost use Prim.Native.Nat.{_≤_};
 ghost use lib.ListN.{length};
-ghost use Rattle.bytes.specs.Areas.{put, over};
+ghost use Rattle.bytes.specs.Areas.{over};
 ghost use Rattle.scram.specs.Answers.{answered};
 ghost use Rattle.estimate.specs.Fields.{firstStates, carriedEstimate};
-ghost use Rattle.records.specs.Lengths.{settingsLength, recordLength};
-ghost use Rattle.records.specs.HeldPart.{heldBytes};
 ghost use Rattle.records.specs.Recording.{noBest, recordedBest, recordedHeld, recordRefusal, recordAnswer, recorded};
 use crate::held_part::put_held;
 use crate::lengths::RECORD;
@@ -93,14 +91,6 @@ fn recorded_held(n: usize, m: usize, held: Held) -> Held
     carried
 }
 
-// Writes the part of what is held, of n states and m readings, to a record.
-pub fn record_held(n: usize, m: usize, held: Held, area: &mut [u8])
-    requires { ⌜ (n ≤ 6) × (recordLength ≤ length (now area)) ⌝ }
-    ensures { λ _. ⌜ now (area .exit) ≡ put (now (area .entry)) settingsLength (heldBytes (recordedHeld n m held)) ⌝ }
-{
-    put_held(recorded_held(n, m, held), area, SETTINGS);
-}
-
 // The number of the refusal of recording, or 0: 1 to 4 for the settings, then 5.
 fn refusal(settings: Settings, area: usize) -> u8
     ensures { λ r. ⌜ r ≡ recordRefusal settings area ⌝ }
@@ -126,6 +116,7 @@ pub fn write(replica: Replica, area: &mut [u8]) -> Answer
         return Answer::Refused(number);
     }
     put_settings(settings, area);
-    record_held(settings.law.n, settings.law.m, replica.held, area);
+    let held = recorded_held(settings.law.n, settings.law.m, replica.held);
+    put_held(held, area, SETTINGS);
     Answer::Done
 }

@@ -7,7 +7,7 @@ use mathlib.Core.Option.{some}
 use Prim.Native.Nat.{ℕ, _≤_}
 use native.Mathlib.Omega.{arith}
 use lib.ListN.{length, getD, take}
-use lib.Dec.{lit≤, lit<, eqb}
+use lib.Dec.{lit≤, eqb}
 use borrow.Author.Tests.{eq-eqb, ne-eqb}
 use Rattle.lists.proofs.Choice.{pick-ok, pick-true}
 use Rattle.lists.proofs.Parts.{drop-beyond}
@@ -34,10 +34,11 @@ use Rattle.power.specs.Demand3.{Entry}
 use Rattle.power.proofs.Theorem as Power
 use Rattle.winder.specs.Answers.{numberOf}
 use Rattle.winder.specs.ReplicaAreas.{stepAt, recording, returningRefusal, returning}
+use Rattle.answers.specs.Answers.{Listed}
 use Rattle.recovery.specs.Firmware.{Handed, outcomeAt, written}
 use Rattle.recovery.specs.ComesBack.{areaAfter, storedAfter, AreRecords}
 use Rattle.recovery.specs.Meaning.{refusalNumber, StepsMean, MakingMeans, RecordingMeans, ReturningMeans}
-use Rattle.recovery.proofs.Quiet.{Numbered, outcome-quiet}
+use Rattle.recovery.proofs.Quiet.{outcome-quiet}
 use Rattle.recovery.proofs.Refusals.{record-length, recorded-bytes, returning-bytes}
 use Rattle.recovery.proofs.OnRecords.{Written, KeptIn, in-order, stayed-kept, recording-same, written-returns}
 use Rattle.recovery.proofs.Theorem.{areas}
@@ -45,16 +46,16 @@ use Rattle.recovery.proofs.Theorem.{areas}
 -- ---- steps
 
 -- an answer is a refusal where its number is one
-by-number : (a : Answered) → Numbered a → refusalNumber (numberOf a) ≡ isRefused a
+by-number : (a : Answered) → Listed a → refusalNumber (numberOf a) ≡ isRefused a
 by-number Done n = refl
 by-number Ignored n = refl
 by-number (Refused number) n =
     rw (ne-eqb number 0 (λ z. absurd (omega (arith, z, n .0))), ne-eqb number 256 (λ z. absurd (omega (arith, z, n .1))))
 
-step-numbered : (b : List ℕ) (x : Input Handed (List ℕ)) (a : Areas) → Numbered (stepAt b (λ r. outcomeAt r x a) .answer)
+step-numbered : (b : List ℕ) (x : Input Handed (List ℕ)) (a : Areas) → Listed (stepAt b (λ r. outcomeAt r x a) .answer)
 unfolding stepAt
 step-numbered b x a =
-    pick-ok (λ (o : Outcomes). Numbered (o .answer)) _ _ _ (λ _. outcome-quiet (replicaIn b) x a .numbered) (λ _. (lit≤ tt, lit< tt))
+    pick-ok (λ (o : Outcomes). Listed (o .answer)) _ _ _ (λ _. outcome-quiet (replicaIn b) x a .numbered) (λ _. (lit≤ tt, lit≤ tt))
 
 written-there : (bytes : List ℕ) (count : ℕ) (area area′ : List ℕ) → count ≡ length bytes → area′ ≡ over bytes area → Group.Written bytes count area area′
 written-there bytes count area area′ q z = record {

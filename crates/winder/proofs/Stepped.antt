@@ -17,8 +17,8 @@ use Rattle.bytes.specs.Areas.{put}
 use Rattle.readings.specs.declared.Readings.{Readings}
 use Rattle.readings.specs.Readings.{normalised, markBeyond}
 use Rattle.law.specs.declared.Settings as Law
+use Rattle.law.specs.Settings.{refusal}
 use Rattle.law.proofs.Lent.{lent}
-use Rattle.law.proofs.Laws.{sizes-accepted}
 use Rattle.frame.specs.Lengths.{longestFrame, longestCommand}
 use Rattle.scram.specs.Answers.{Answered, Done, Ignored, Refused, answered}
 use Rattle.scram.specs.Held as Scram
@@ -39,10 +39,11 @@ use Rattle.replica.proofs.Calls.{checked-refused, checked-done}
 use Rattle.records.specs.Lengths.{settingsLength, recordLength}
 use Rattle.records.specs.SettingsPart.{letter, version, settingsBytes, settingsIn}
 use Rattle.records.specs.HeldPart.{heldBytes, heldAt}
-use Rattle.records.specs.Recording.{recordedHeld, recordBytes}
+use Rattle.records.specs.Recording.{recordBytes}
 use Rattle.records.specs.Reading.{isDone, replicaIn, layoutOk, settingsOk, heldOk, isRecord, readReplica}
 use Rattle.records.proofs.IsRecord.{layout-length, parts, parts-record}
 use Rattle.records.proofs.SettingsLaws.{settings-written}
+use Rattle.records.proofs.Whole.{Whole, whole-recorded, tick-whole, give-up-whole, arrival-whole, read-whole}
 use Rattle.winder.specs.Answers.{numberOf}
 use Rattle.winder.specs.ReplicaAreas.{stepAt, recordAfter, Steps}
 
@@ -156,20 +157,19 @@ DoesAt x o given frame frame′ command command′ =
     Does (x .settings .law .n) (x .settings .law .m) (x .settings .law .p) o given frame frame′ command command′
 
 -- what `leave` leaves of a record
-abbrev left : Replica → Given → List ℕ → List ℕ
-left x given b =
-    pick (isDone (answered (given .answer))) (take settingsLength b ++ heldBytes (recordedHeld (x .settings .law .n) (x .settings .law .m) (given .held))) b
+abbrev left : Given → List ℕ → List ℕ
+left given b = pick (isDone (answered (given .answer))) (take settingsLength b ++ heldBytes (given .held)) b
 
--- with the lengths of what was written, and the answer's number
+-- with the lengths of what was written, and the answer's number. What is held may be written as it stands, since a record has all of it
 steps-given : {b : List ℕ} {o : Outcomes} {given : Given} {frame frame′ command command′ : List ℕ} → isRecord b ≡ true → AllBytes b
-    → DoesAt (replicaIn b) o given frame frame′ command command′
-    → Steps b o (numberOf (answered (given .answer))) (left (replicaIn b) given b) (given .frame ∷ given .command ∷ []) frame frame′ command command′
+    → Whole (replicaIn b .settings .law) (o .held) → DoesAt (replicaIn b) o given frame frame′ command command′
+    → Steps b o (numberOf (answered (given .answer))) (left given b) (given .frame ∷ given .command ∷ []) frame frame′ command command′
 unfolding recordAfter recordBytes replicaIn
-steps-given {b} is bytes d =
-    let law = settingsIn b .law in
-    let part = record-part b is bytes in record {
+steps-given {b} {o} is bytes whole d =
+    let part = record-part b is bytes in
+    let held = d .held ∙ sym (whole-recorded (settingsIn b .law) (o .held) whole) in record {
       answer = ap numberOf (d .answer);
-      replica = λ i. pick (isDone (d .answer i)) (part i ++ heldBytes (recordedHeld (law .n) (law .m) (d .held i))) b;
+      replica = λ i. pick (isDone (d .answer i)) (part i ++ heldBytes (held i)) b;
       written = λ i. d .frame-length i ∷ d .command-length i ∷ [];
       frame-bytes = d .frame-bytes;
       command-bytes = d .command-bytes;
@@ -217,8 +217,9 @@ module _ {b : List ℕ} {x : Replica} {frame command : List ℕ} (s : Stands b x
   unfolding replicaIn
   stands-settings = ap (λ (x : Replica). settingsRefusal (x .settings)) (s .same) ∙ record-settings b (s .is)
 
-  pub stands-n : x .settings .law .n ≤ 6
-  stands-n = sizes-accepted (x .settings .law) (accepted (x .settings) stands-settings .law) .n6
+  law-stands : refusal (replicaIn b .settings .law) ≡ 0
+  unfolding replicaIn
+  law-stands = accepted (settingsIn b) (record-settings b (s .is)) .law
 
   pub stands-length : length b ≡ recordLength
   stands-length = record-length b (s .is)
@@ -228,34 +229,40 @@ module _ {b : List ℕ} {x : Replica} {frame command : List ℕ} (s : Stands b x
 
   -- the event, and what `leave` leaves after it
   stepped : (event : Replica → Outcomes) {given : Given} {number : ℕ} {b′ lengths frame′ command′ : List ℕ} → AllBytes b
-      → DoesAt x (event x) given frame frame′ command command′ → number ≡ numberOf (answered (given .answer)) → b′ ≡ left x given b
-      → lengths ≡ given .frame ∷ given .command ∷ []
+      → Whole (replicaIn b .settings .law) (event (replicaIn b) .held) → DoesAt x (event x) given frame frame′ command command′
+      → number ≡ numberOf (answered (given .answer)) → b′ ≡ left given b → lengths ≡ given .frame ∷ given .command ∷ []
       → Steps b (stepAt b (λ x. checked x (length frame) (length command) (event x))) number b′ lengths frame frame′ command command′
-  stepped event {given} {number} {b′} {lengths} {frame′} {command′} bytes d answer record-left written =
+  stepped event {given} {number} {b′} {lengths} {frame′} {command′} bytes whole d answer record-left written =
       let d′ = subst (λ (x : Replica). DoesAt x (event x) given frame frame′ command command′) (s .same) d in
-      let e = record-left ∙ ap (λ (x : Replica). left x given b) (s .same) in
       subst (λ o. Steps b o number b′ lengths frame frame′ command command′) (step-event b (s .is) (length frame) (length command) event (s .long))
-      (rw (answer, e, written) (steps-given (s .is) bytes d′))
+      (rw (answer, record-left, written) (steps-given (s .is) bytes whole d′))
 
   -- each of the three
   module _ {given : Given} {number : ℕ} {b′ lengths frame′ command′ : List ℕ} (bytes : AllBytes b) (answer : number ≡ numberOf (answered (given .answer)))
-      (record-left : b′ ≡ left x given b) (written : lengths ≡ given .frame ∷ given .command ∷ []) where
+      (record-left : b′ ≡ left given b) (written : lengths ≡ given .frame ∷ given .command ∷ []) where
     pub tick-stepped : {y y′ : Readings} → y ≡ y′ → DoesAt x (ticks (lent (x .settings .law)) y x) given frame frame′ command command′
         → Steps b (stepAt b (λ x. tickOutcome x y′ (length frame) (length command))) number b′ lengths frame frame′ command command′
     unfolding tickOutcome
     tick-stepped {y} {y′} e d =
         let same = tick-lent (x .settings .law) _ _ _ _ _ ∙ ap (λ (y : Readings). ticks (x .settings .law) y x) e in
-        stepped (λ x. ticks (x .settings .law) y′ x) bytes
+        let r = replicaIn b in
+        let whole = tick-whole (r .settings .law) (groupOf (memberOf (r .settings))) (r .settings .own) law-stands (heldIn (r .held)) _ y′ (read-whole b bytes (s .is)) in
+        stepped (λ x. ticks (x .settings .law) y′ x) bytes whole
         (subst (λ (o : Outcomes). DoesAt x o given frame frame′ command command′) same d) answer record-left written
 
     pub give-up-stepped : DoesAt x (givesUp x) given frame frame′ command command′
         → Steps b (stepAt b (λ x. giveUpOutcome x (length frame) (length command))) number b′ lengths frame frame′ command command′
     unfolding giveUpOutcome
-    give-up-stepped d = stepped givesUp bytes d answer record-left written
+    give-up-stepped d =
+        let r = replicaIn b in
+        let whole = give-up-whole (r .settings .law) (groupOf (memberOf (r .settings))) (r .settings .own) (heldIn (r .held)) (read-whole b bytes (s .is)) in
+        stepped givesUp bytes whole d answer record-left written
 
     pub arrive-stepped : (arrived : List ℕ) → DoesAt x (arrives (lent (x .settings .law)) arrived x) given frame frame′ command command′
         → Steps b (stepAt b (λ x. arriveOutcome x arrived (length frame) (length command))) number b′ lengths frame frame′ command command′
     unfolding arriveOutcome
     arrive-stepped arrived d =
-        stepped (λ x. arrives (x .settings .law) arrived x) bytes
+        let r = replicaIn b in
+        let whole = arrival-whole (r .settings .law) (groupOf (memberOf (r .settings))) (r .settings .own) (heldIn (r .held)) arrived (read-whole b bytes (s .is)) in
+        stepped (λ x. arrives (x .settings .law) arrived x) bytes whole
         (subst (λ (o : Outcomes). DoesAt x o given frame frame′ command command′) (arrival-lent (x .settings .law) _ _ _ _) d) answer record-left written

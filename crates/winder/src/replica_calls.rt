@@ -1,7 +1,6 @@
 // Making a replica, and its three steps. A replica is its record.
 ghost use mathlib.Core.Path.{_≡_};
 ghost use mathlib.Core.List.{[], _∷_, _++_};
-ghost use Prim.Native.Nat.{_≤_};
 ghost use lib.ListN.{length, take};
 ghost use Rattle.lists.specs.Choice.{pick};
 ghost use Rattle.bytes.specs.Areas.{over};
@@ -11,15 +10,17 @@ ghost use Rattle.transmitters.specs.Numbers.{readingsOf};
 ghost use Rattle.replica.specs.Calls.{tickOutcome, giveUpOutcome, arriveOutcome, freshOf};
 ghost use Rattle.records.specs.Lengths.{settingsLength, recordLength};
 ghost use Rattle.records.specs.HeldPart.{heldBytes};
-ghost use Rattle.records.specs.Recording.{recordedHeld, recordAnswer, recorded};
+ghost use Rattle.records.specs.Recording.{recordAnswer, recorded};
 ghost use Rattle.records.specs.Reading.{isDone};
 ghost use Rattle.winder.specs.Answers.{numberOf};
 ghost use Rattle.winder.specs.ReplicaAreas.{settingsOf, stepAt, Steps};
 use crate::answers::replica_number;
 use records::conditions::layout_ok;
+use records::held_part::held_at;
+use records::held_part::put_held;
+use records::lengths::SETTINGS;
 use records::reading::is_done;
-use records::reading::read_held;
-use records::recording::record_held;
+use records::reading::parts_ok;
 use records::recording::write;
 use records::settings_part::settings_in;
 use replica::Given;
@@ -98,11 +99,12 @@ pub extern "C" fn winder_make(
     replica_number(write(fresh, replica))
 }
 
-// What a step leaves: the lengths written and, where it was done, the new record, whose first part stays as it is.
-fn leave(n: usize, m: usize, given: Given, replica: &mut [u8], lengths: &mut [usize; 2]) -> u32
-    requires { ⌜ (n ≤ 6) × (length (now replica) ≡ recordLength) ⌝ }
+// What a step leaves: the lengths written and, where it was done, the new record, whose first part stays as it is. What is held is written as it stands: of
+// a step on a record it is what a record has of it.
+fn leave(given: Given, replica: &mut [u8], lengths: &mut [usize; 2]) -> u32
+    requires { ⌜ length (now replica) ≡ recordLength ⌝ }
     ensures answer { λ r. ⌜ r ≡ numberOf (answered (given .answer)) ⌝ }
-    ensures replica { λ _. ⌜ now (replica .exit) ≡ pick (isDone (answered (given .answer))) (take settingsLength (now (replica .entry)) ++ heldBytes (recordedHeld n m (given .held))) (now (replica .entry)) ⌝ }
+    ensures replica { λ _. ⌜ now (replica .exit) ≡ pick (isDone (answered (given .answer))) (take settingsLength (now (replica .entry)) ++ heldBytes (given .held)) (now (replica .entry)) ⌝ }
     ensures lengths { λ _. ⌜ now (lengths .exit) ≡ given .frame ∷ given .command ∷ [] ⌝ }
 {
     *lengths = [given.frame, given.command];
@@ -110,7 +112,7 @@ fn leave(n: usize, m: usize, given: Given, replica: &mut [u8], lengths: &mut [us
     if !is_done(answer) {
         return replica_number(answer);
     }
-    record_held(n, m, given.held, replica);
+    put_held(given.held, replica, SETTINGS);
     0
 }
 
@@ -133,7 +135,7 @@ pub extern "C" fn winder_tick(
         return 15;
     }
     let settings = settings_in(replica);
-    let part = read_held(
+    let ok = parts_ok(
         settings.boxes,
         settings.own,
         settings.law.n,
@@ -147,12 +149,13 @@ pub extern "C" fn winder_tick(
         &settings.law.high,
         replica,
     );
-    if !part.ok {
+    if !ok {
         return 15;
     }
     if short_area(frame.len(), command.len()) {
         return 5;
     }
+    let held = held_at(replica, SETTINGS);
     let converted = convert_row(readings_of(kinds, bits));
     let given = fit::tick(
         settings.boxes,
@@ -166,11 +169,11 @@ pub extern "C" fn winder_tick(
         &settings.law.k,
         &settings.law.low,
         &settings.law.high,
-        part.held,
+        held,
         converted,
         frame,
     );
-    leave(settings.law.n, settings.law.m, given, replica, lengths)
+    leave(given, replica, lengths)
 }
 
 // The view is given up.
@@ -190,7 +193,7 @@ pub extern "C" fn winder_give_up(
         return 15;
     }
     let settings = settings_in(replica);
-    let part = read_held(
+    let ok = parts_ok(
         settings.boxes,
         settings.own,
         settings.law.n,
@@ -204,7 +207,7 @@ pub extern "C" fn winder_give_up(
         &settings.law.high,
         replica,
     );
-    if !part.ok {
+    if !ok {
         return 15;
     }
     if short_area(frame.len(), command.len()) {
@@ -212,8 +215,9 @@ pub extern "C" fn winder_give_up(
     }
     let n = settings.law.n;
     let m = settings.law.m;
-    let given = fit::give_up(settings.boxes, settings.own, n, m, part.held, frame);
-    leave(n, m, given, replica, lengths)
+    let held = held_at(replica, SETTINGS);
+    let given = fit::give_up(settings.boxes, settings.own, n, m, held, frame);
+    leave(given, replica, lengths)
 }
 
 // Bytes that arrive as a frame.
@@ -234,7 +238,7 @@ pub extern "C" fn winder_arrive(
         return 15;
     }
     let settings = settings_in(replica);
-    let part = read_held(
+    let ok = parts_ok(
         settings.boxes,
         settings.own,
         settings.law.n,
@@ -248,12 +252,13 @@ pub extern "C" fn winder_arrive(
         &settings.law.high,
         replica,
     );
-    if !part.ok {
+    if !ok {
         return 15;
     }
     if short_area(frame.len(), command.len()) {
         return 5;
     }
+    let held = held_at(replica, SETTINGS);
     let given = fit::arrive(
         settings.boxes,
         settings.own,
@@ -266,10 +271,10 @@ pub extern "C" fn winder_arrive(
         &settings.law.k,
         &settings.law.low,
         &settings.law.high,
-        part.held,
+        held,
         bytes,
         frame,
         command,
     );
-    leave(settings.law.n, settings.law.m, given, replica, lengths)
+    leave(given, replica, lengths)
 }

@@ -1,90 +1,111 @@
--- `records::conditions::heard_ok` meets its contract. The loop's invariant: j is above the number of boxes, and the test holds of each place below j.
--- Assumes nothing.
-use mathlib.Core.Path.{_≡_, sym}
-use mathlib.Core.Bool.{Bool, true, false, not, _||_}
+-- `records::conditions::heard_ok` meets its contract. The loop's invariant: it does so for the first j places. Assumes nothing.
+use mathlib.Core.Path.{_≡_, refl, sym, ap, ap₂, _∙_}
+use mathlib.Core.Bool.{Bool, true, false, not, _&&_, _||_, and-true, or-false}
 use mathlib.Core.List.{List}
+use mathlib.Core.Logic.{⊎-elim}
 use Prim.Native.Nat.{ℕ, zero, suc, _-_, _+_, _≤_, _<_}
 use native.Mathlib.Omega.{arith}
+use lib.Bits.{bitOr}
+use lib.ListN.{getD}
+use lib.Dec.{eqb}
 use borrow.Author.Tests.{le-leb, lt-leb}
 use Rattle.lists.specs.Below.{allBelow}
-use Rattle.lists.proofs.Below.{all-of, all-at, all-more, one-fails}
+use Rattle.lists.proofs.Below.{all-next}
 use Rattle.lists.proofs.Booleans.{or-true}
+use Rattle.lists.proofs.Places.{filled-at}
 use Rattle.scram.specs.Quorum.{among}
-use Rattle.records.specs.Reading.{isBox, heardOk}
+use Rattle.records.specs.HeldPart.{markAt, heardAt}
+use Rattle.records.specs.Reading.{isBox, bytesMean, heardOk}
+use Rattle.records.proofs.HeldLaws.{heard-small}
+use Rattle.records.proofs.Joined.{or-zero}
 use Rattle.records.proofs.conditions.heard_ok.Statement.{statement}
 use Rattle.records.proofs.conditions.heard_ok.Tie as tie
 
-abbrev test : ℕ → List Bool → ℕ → Bool
-test boxes heard j = not (among heard j) || isBox boxes j
+-- a byte that is 0 or 1 is no mark exactly where it is 0
+no-mark : (x : ℕ) → x ≤ 1 → not (eqb x 1) ≡ eqb x 0
+no-mark zero h = refl
+no-mark (suc zero) h = refl
+no-mark (suc (suc x)) h = absurd (omega arith)
 
--- a place without a mark passes
-no-mark : (boxes : ℕ) (heard : List Bool) (j : ℕ) → among heard j ≡ false → test boxes heard j ≡ true
-no-mark boxes heard j e = rw e
+abbrev test : ℕ → List ℕ → ℕ → Bool
+test boxes b j = not (among (heardAt b 514) j) || isBox boxes j
 
--- and so does each place of a box
-up-to : (boxes : ℕ) (heard : List Bool) → among heard 0 ≡ false → (j : ℕ) → j < boxes + 1 → test boxes heard j ≡ true
-up-to boxes heard e zero l = no-mark boxes heard 0 e
-up-to boxes heard e (suc j) l = rw (le-leb 1 (suc j) (omega arith), le-leb (suc j) boxes (omega arith)) (or-true (not (among heard (suc j))))
+module _ (boxes : ℕ) (b : List ℕ) (mean : bytesMean b ≡ true) where
+  -- a box's place passes
+  of-box : (j : ℕ) → 1 ≤ j → j ≤ boxes → test boxes b j ≡ true
+  of-box j low high = rw (le-leb 1 j low, le-leb j boxes high) (or-true (not (among (heardAt b 514) j)))
 
--- a mark at place 0, or above the number of boxes, does not
-at-0 : (boxes : ℕ) (heard : List Bool) → among heard 0 ≡ true → test boxes heard 0 ≡ false
-at-0 boxes heard e = rw e
+  -- another does where its byte is 0
+  of-none : (j : ℕ) → j < 10 → isBox boxes j ≡ false → test boxes b j ≡ eqb (getD b (514 + j) 0) 0
+  unfolding heardAt
+  of-none j l e =
+      ap (λ (t : Bool). not (among (heardAt b 514) j) || t) e
+      ∙ or-false (not (among (heardAt b 514) j))
+      ∙ ap not (filled-at false 10 10 j (λ k. markAt b (514 + k)) l l)
+      ∙ no-mark (getD b (514 + j) 0) (heard-small b mean j l)
 
-above : (boxes : ℕ) (heard : List Bool) (j : ℕ) → boxes + 1 ≤ j → among heard j ≡ true → test boxes heard j ≡ false
-above boxes heard j l e = rw (e, le-leb 1 j (omega arith), lt-leb j boxes (omega arith))
+  -- place 0 is no box's
+  first : eqb (getD b 514 0) 0 ≡ allBelow 1 (test boxes b)
+  unfolding allBelow
+  first = sym (of-none 0 (omega arith) refl)
+
+  module _ (j bits : ℕ) (e : eqb bits 0 ≡ allBelow j (test boxes b)) where
+    -- a turn of the loop at a box
+    passed : 1 ≤ j → j ≤ boxes → eqb bits 0 ≡ allBelow (j + 1) (test boxes b)
+    passed low high =
+        e ∙ sym (all-next (test boxes b) j ∙ ap (λ (t : Bool). allBelow j (test boxes b) && t) (of-box j low high) ∙ and-true (allBelow j (test boxes b)))
+
+    -- and above the last
+    looked : j < 10 → boxes < j → eqb (bitOr bits (getD b (514 + j) 0)) 0 ≡ allBelow (j + 1) (test boxes b)
+    looked l high =
+        or-zero bits (getD b (514 + j) 0)
+        ∙ ap₂ (λ (s t : Bool). s && t) e (sym (of-none j l (rw (le-leb 1 j (omega arith)) (lt-leb j boxes high))))
+        ∙ sym (all-next (test boxes b) j)
 
 abbrev Inv-loop : tie.InvT-loop
-Inv-loop boxes heard first j₀ j = (boxes + 1 ≤ j) × (allBelow j (test boxes heard) ≡ true)
+Inv-loop boxes bytes last bits₀ j₀ bits j = (1 ≤ j) × (j ≤ 10) × (eqb bits 0 ≡ allBelow j (test boxes bytes))
 
 abbrev μ-loop : tie.MeasureT-loop
-μ-loop boxes heard first j₀ j = 10 - j
+μ-loop boxes bytes last bits₀ j₀ bits j = 10 - j
 
-array-read-first : tie.Need-array-read-first Inv-loop μ-loop
-array-read-first c = omega arith
+shared-slice-read-bits : tie.Need-shared-slice-read-bits Inv-loop μ-loop
+shared-slice-read-bits c = omega arith
 
-returns : tie.Need-returns Inv-loop μ-loop
-unfolding heardOk
-returns c =
-    let s = c .before .args in
-    sym (one-fails (test (s .boxes) (s .t2)) 10 0 (omega arith) (at-0 (s .boxes) (s .t2) (c .if1 .taken)))
+loop-holds : tie.Need-loop-holds Inv-loop μ-loop
+loop-holds c = let s = c .before in (omega arith, omega arith, first (s .args .boxes) (s .args .bytes .now) (s .pre .1))
+
+add-bits : tie.Need-add-bits Inv-loop μ-loop
+add-bits c = omega arith
+
+shared-slice-read-bits-2 : tie.Need-shared-slice-read-bits-2 Inv-loop μ-loop
+shared-slice-read-bits-2 c = omega arith
 
 add-j : tie.Need-add-j Inv-loop μ-loop
 add-j c = omega arith
-
-loop-holds : tie.Need-loop-holds Inv-loop μ-loop
-loop-holds c =
-    let s = c .before .args in
-    (omega arith, all-of (test (s .boxes) (s .t2)) (s .boxes + 1) (up-to (s .boxes) (s .t2) (c .if1 .left)))
-
-array-read-mark : tie.Need-array-read-mark Inv-loop μ-loop
-array-read-mark c = omega arith
-
-returns-2 : tie.Need-returns-2 Inv-loop μ-loop
-unfolding heardOk
-returns-2 c =
-    let s = c .before .before .before .before .args in
-    let l = c .before .before .loop in
-    sym (one-fails (test (s .boxes) (s .t2)) 10 (l .j) (omega arith) (above (s .boxes) (s .t2) (l .j) (l .inv .0) (c .if2 .taken)))
-
-add-j-2 : tie.Need-add-j-2 Inv-loop μ-loop
-add-j-2 c = omega arith
 
 loop-less : tie.Need-loop-less Inv-loop μ-loop
 loop-less c = omega arith
 
 loop-again : tie.Need-loop-again Inv-loop μ-loop
 loop-again c =
-    let s = c .before .before .before .before .args in
+    let s = c .before .before .before .before in
     let l = c .before .before .loop in
-    (omega arith, all-more (test (s .boxes) (s .t2)) (l .j) (l .inv .1) (no-mark (s .boxes) (s .t2) (l .j) (c .if2 .left)))
+    let e = l .inv .2 in
+    let p = passed (s .args .boxes) (s .args .bytes .now) (s .pre .1) (l .j) (l .bits) e in
+    let q = looked (s .args .boxes) (s .args .bytes .now) (s .pre .1) (l .j) (l .bits) e in (
+      omega arith,
+      omega arith,
+      ⊎-elim (λ w. ap (λ (x : ℕ). eqb x 0) (w .2) ∙ q (omega arith) (w .0 .taken))
+          (λ w. ap (λ (x : ℕ). eqb x 0) (w .1) ∙ p (l .inv .0) (w .0 .left)) (c .if1 .came),
+    )
 
-returns-3 : tie.Need-returns-3 Inv-loop μ-loop
+returns : tie.Need-returns Inv-loop μ-loop
 unfolding heardOk
-returns-3 c =
+returns c =
     let s = c .before .before .before .args in
     let l = c .before .loop in
-    let t = test (s .boxes) (s .t2) in
-    sym (all-of t 10 (λ k h. all-at t (l .j) k (l .inv .1) (omega arith)))
+    let done : l .j ≡ 10 = omega arith in
+    l .inv .2 ∙ ap (λ (n : ℕ). allBelow n (test (s .boxes) (s .bytes .now))) done
 
 pub heard-ok-spec : {M : Type 1} → statement M
 heard-ok-spec =
@@ -92,13 +113,11 @@ heard-ok-spec =
     (tie.spec
     Inv-loop
     μ-loop
-    array-read-first
-    returns
-    add-j
+    shared-slice-read-bits
     loop-holds
-    array-read-mark
-    returns-2
-    add-j-2
+    add-bits
+    shared-slice-read-bits-2
+    add-j
     loop-less
     loop-again
-    returns-3)
+    returns)

@@ -8,7 +8,7 @@ use Rattle.bytes.specs.Words.{littleEndian}
 use Rattle.bytes.proofs.Areas.{then-put}
 use Rattle.records.specs.HeldPart.{heldBytes}
 use Rattle.records.proofs.Heard.{length-heard}
-use Rattle.records.proofs.HeldLaws.{length-front, length-own, length-best}
+use Rattle.records.proofs.PartLengths.{length-front, length-own, length-best}
 use borrow.Author.Needs.{needs}
 use Rattle.records.proofs.held_part.put_held.Statement.{statement}
 use Rattle.records.proofs.held_part.put_held.Tie as tie

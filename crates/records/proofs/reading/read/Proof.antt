@@ -3,6 +3,7 @@ use mathlib.Core.Path.{_≡_, sym, ap, ap₂, _∙_}
 use mathlib.Core.Bool.{true, _&&_}
 use mathlib.Core.List.{List}
 use Prim.Native.Nat.{ℕ}
+use native.Mathlib.Omega.{arith}
 use lib.Dec.{eqb}
 use lib.ListN.{length}
 use borrow.Author.Needs.{needs}
@@ -28,12 +29,15 @@ laid-out c = sym (c .before .layout-ok .ensures) ∙ not-false _ (c .if1 .left)
 long : (c : tie.Else1) → length (given (c .before)) ≡ recordLength
 long c = layout-length _ (laid-out c)
 
+abbrev made : tie.After-parts-ok → tie.After-settings-in
+made c = c .before .before .before .before .before .before .before .before
+
 -- what the two parts say together
-found : (c : tie.After-read-held) → c .read-held .result .ok ≡ isRecord (given (c .before .before .before .before .before .before .before .before .before .before))
+found : (c : tie.After-parts-ok) → c .parts-ok .result ≡ isRecord (given (made c .before .before))
 found c =
-    let d = c .before .before .before .before .before .before .before .before in
+    let d = made c in
     let b = given (d .before .before) in
-    c .read-held .ensures .0
+    c .parts-ok .ensures
     ∙ ap (λ (k : ℕ). eqb k 0 && heldOk (d .settings-in .result .boxes) (d .settings-in .result .law .n) (d .settings-in .result .law .m) (heldAt b settingsLength) b)
     (settings-lent (d .settings-in .result))
     ∙ ap (λ (s : Settings). parts b s) (d .settings-in .ensures)
@@ -53,25 +57,28 @@ returns c =
 settings-in-requires : tie.Need-settings-in-requires
 settings-in-requires c κs = long c
 
-read-held-requires : tie.Need-read-held-requires
-read-held-requires c κs = long (c .before .before .before .before .before .before .before .before)
+parts-ok-requires : tie.Need-parts-ok-requires
+parts-ok-requires c κs = long (c .before .before .before .before .before .before .before .before)
 
 refused-requires-2 : tie.Need-refused-requires-2
 refused-requires-2 c κs = search needs
 
 returns-2 : tie.Need-returns-2
 returns-2 c =
-    let r = read-refused _ (sym (found (c .before .before .before)) ∙ not-true _ (c .before .if2 .taken)) in
+    let r = read-refused _ (sym (found (c .before .before)) ∙ not-true _ (c .before .if2 .taken)) in
     (c .refused2 .ensures .0 ∙ sym (r .0), c .refused2 .ensures .1 ∙ sym (r .1))
+
+held-at-requires : tie.Need-held-at-requires
+held-at-requires c κs = omega (arith, long (made (c .before) .before))
 
 returns-3 : tie.Need-returns-3
 unfolding replicaIn
 returns-3 c =
-    let h = c .before .before .before in
+    let h = c .before .before in
     let r = read-done _ (sym (found h) ∙ not-false _ (c .before .if2 .left)) in (
       sym (r .0),
       ap₂ (λ (s : Settings) (x : Held). record { settings = s; held = x })
-          (h .before .before .before .before .before .before .before .before .settings-in .ensures) (h .read-held .ensures .1)
+          (made h .settings-in .ensures) (c .held-at .ensures)
           ∙ sym (r .1),
     )
 
@@ -83,7 +90,8 @@ read-spec =
     refused-requires
     returns
     settings-in-requires
-    read-held-requires
+    parts-ok-requires
     refused-requires-2
     returns-2
+    held-at-requires
     returns-3)

@@ -7,7 +7,7 @@ use lib.ListN.{length}
 use mir.Val.{Val}
 use denote.Shadow.{shadow}
 use borrow.Author.Needs.{needs}
-use Rattle.bytes.specs.Areas.{over}
+use Rattle.bytes.specs.Areas.{put, over}
 use Rattle.bytes.proofs.Areas.{then-put, put-front}
 use Rattle.scram.specs.Answers.{Refused}
 use Rattle.law.specs.declared.Settings as Law
@@ -69,11 +69,11 @@ put-settings-requires : tie.Need-put-settings-requires
 put-settings-requires c κs =
     let z = sizes (c .before) in let room = left (c .before) .room in (omega arith, omega arith, omega arith, omega arith)
 
-record-held-requires : tie.Need-record-held-requires
-record-held-requires c κs =
-    let e = c .before .before .before .before .before in
-    let room = left e .room in
-    (sizes e .n6, omega arith)
+recorded-held-requires : tie.Need-recorded-held-requires
+recorded-held-requires c κs = sizes (c .before .before .before .before) .n6
+
+put-held-requires : tie.Need-put-held-requires
+put-held-requires c κs = let room = left (c .before .before .before .before .before .before) .room in omega arith
 
 same-length : tie.Need-same-length
 same-length c = search needs
@@ -81,7 +81,7 @@ same-length c = search needs
 returns-2 : tie.Need-returns-2
 unfolding recordBytes
 returns-2 c =
-    let e = c .before .before .before .before .before .before .before .before in
+    let e = c .before .before .before .before .before .before .before .before .before in
     let s = start e in
     let r = s .args .replica in
     let l = s .args .area .now in
@@ -91,7 +91,9 @@ returns-2 c =
     let room = left e .room in (
       sym (d .0),
       then-put l _ _ 0 496 (settingsBytes (r .settings)) (heldBytes (recordedHeld (r .settings .law .n) (r .settings .law .m) (r .held)))
-          (c .before .before .before .before .before .before .put-settings .ensures) (c .before .before .record-held .ensures) (omega arith) (omega arith)
+          (c .before .before .before .before .before .before .before .put-settings .ensures)
+          (c .before .before .put-held .ensures ∙ ap (put _ 496) (ap heldBytes (c .before .before .before .before .recorded-held .ensures)))
+          (omega arith) (omega arith)
           ∙ put-front l _
           ∙ sym (ap (λ (w : List ℕ). over w l) (d .1)),
     )
@@ -103,6 +105,7 @@ write-spec =
     refusal-requires
     returns
     put-settings-requires
-    record-held-requires
+    recorded-held-requires
+    put-held-requires
     same-length
     returns-2)

@@ -5,7 +5,7 @@ use borrow.Author.Needs.{needs}
 use lib.ListN.{length}
 use Rattle.bytes.proofs.Areas.{then-put}
 use Rattle.records.specs.SettingsPart.{headBytes, tablesBytes, settingsBytes}
-use Rattle.records.proofs.SettingsLaws.{length-head, length-tables}
+use Rattle.records.proofs.PartLengths.{length-head, length-tables}
 use Rattle.records.proofs.settings_part.put_settings.Statement.{statement}
 use Rattle.records.proofs.settings_part.put_settings.Tie as tie
 
@@ -21,7 +21,15 @@ same-length c = search needs
 -- the tables' bytes, by the tables' types
 tables-length : (s : tie.Start) → length (tablesBytes (s .args .settings .law)) ≡ 488
 tables-length s =
-    length-tables (s .args .settings .law) (search needs) (search needs) (search needs) (search needs) (search needs) (search needs) (search needs)
+    length-tables (s .args .settings .law) (record {
+      a = search needs;
+      l = search needs;
+      c = search needs;
+      k = search needs;
+      low = search needs;
+      high = search needs;
+      start = search needs;
+    })
 
 returns : tie.Need-returns
 unfolding settingsBytes

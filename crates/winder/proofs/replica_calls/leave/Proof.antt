@@ -6,7 +6,7 @@ use borrow.Author.Needs.{needs}
 use borrow.Author.Tests.{not-true, not-false}
 use Rattle.lists.proofs.Choice.{pick-true, pick-false}
 use Rattle.scram.specs.Answers.{answered}
-use Rattle.records.proofs.PartLengths.{length-recorded}
+use Rattle.records.proofs.PartLengths.{FullEstimate, length-held}
 use Rattle.winder.proofs.Stepped.{put-last, done-number}
 use Rattle.winder.proofs.replica_calls.leave.Statement.{statement}
 use Rattle.winder.proofs.replica_calls.leave.Tie as tie
@@ -14,6 +14,13 @@ use Rattle.winder.proofs.replica_calls.leave.Tie as tie
 -- each box has a place among those heard
 ten : (c : tie.Start) → length (c .args .given .held .heard) ≡ 10
 ten c = search needs
+
+-- and each estimate has six states and four values
+own : (c : tie.Start) → FullEstimate (c .args .given .held .estimate)
+own c = search needs
+
+best : (c : tie.Start) → FullEstimate (c .args .given .held .best .estimate)
+best c = search needs
 
 is-done-requires : tie.Need-is-done-requires
 is-done-requires c κs = search needs
@@ -26,8 +33,8 @@ returns c =
     let e = c .before .before .is-done .ensures in
     (c .replica-number .ensures, (sym (pick-false _ _ _ (sym e ∙ not-true _ (c .before .if1 .taken))), refl))
 
-record-held-requires : tie.Need-record-held-requires
-record-held-requires c κs = let s = c .before .before .before .before .before .pre in (s .0, omega (arith, s .1))
+put-held-requires : tie.Need-put-held-requires
+put-held-requires c κs = omega (arith, c .before .before .before .before .before .pre)
 
 same-length : tie.Need-same-length
 same-length c = search needs
@@ -37,9 +44,9 @@ returns-2 c =
     let s = c .before .before .before .before .before .before .before .before in
     let a = s .args in
     let done = sym (c .before .before .before .before .before .is-done .ensures) ∙ not-false _ (c .before .before .before .before .if1 .left) in
-    let written = length-recorded (a .n) (a .m) (a .given .held) (ten s) in (
+    let written = length-held (a .given .held) (ten s) (own s) (best s) in (
       done-number (answered (a .given .answer)) done,
-      (c .before .before .record-held .ensures ∙ put-last (a .replica .now) 496 _ (omega (arith, s .pre .1)) ∙ sym (pick-true _ _ _ done), refl),
+      (c .before .before .put-held .ensures ∙ put-last (a .replica .now) 496 _ (omega (arith, s .pre)) ∙ sym (pick-true _ _ _ done), refl),
     )
 
 pub leave-spec : {M : Type 1} → statement M
@@ -49,6 +56,6 @@ leave-spec =
     is-done-requires
     replica-number-requires
     returns
-    record-held-requires
+    put-held-requires
     same-length
     returns-2)

@@ -3,6 +3,7 @@ use mathlib.Core.Path.{_≡_, sym, ap, _∙_}
 use mathlib.Core.Bool.{true}
 use mathlib.Core.List.{List}
 use Prim.Native.Nat.{ℕ}
+use native.Mathlib.Omega.{arith}
 use lib.ListN.{length}
 use borrow.Author.Needs.{needs}
 use borrow.Author.Tests.{not-true, not-false}
@@ -21,7 +22,6 @@ use Rattle.winder.proofs.Stepped.{
   Stands,
   stands,
   stands-settings,
-  stands-n,
   stands-length,
   stands-room,
   tick-stepped,
@@ -48,29 +48,29 @@ long : (c : tie.Else1) → length (stored (c .before)) ≡ recordLength
 long c = layout-length _ (laid-out c)
 
 -- where the settings were read, and the layout before them
-abbrev settled : tie.After-read-held → tie.After-settings-in
+abbrev settled : tie.After-parts-ok → tie.After-settings-in
 settled c = c .before .before .before .before .before .before .before .before .before
 
-abbrev laid : tie.After-read-held → tie.Else1
+abbrev laid : tie.After-parts-ok → tie.Else1
 laid c = settled c .before .before
 
-is-record : (c : tie.After-read-held) → c .read-held .result .ok ≡ isRecord (stored (laid c .before))
-is-record c = parts-read _ (settled c .settings-in .ensures) (laid-out (laid c)) (c .read-held .ensures .0)
+is-record : (c : tie.After-parts-ok) → c .parts-ok .result ≡ isRecord (stored (laid c .before))
+is-record c = parts-read _ (settled c .settings-in .ensures) (laid-out (laid c)) (c .parts-ok .ensures)
 
-passed : (c : tie.Else2) → isRecord (stored (laid (c .before .before) .before)) ≡ true
-passed c = sym (is-record (c .before .before)) ∙ not-false _ (c .if2 .left)
+passed : (c : tie.Else2) → isRecord (stored (laid (c .before) .before)) ≡ true
+passed c = sym (is-record (c .before)) ∙ not-false _ (c .if2 .left)
 
 -- the replica that is read
-abbrev found : tie.After-read-held → Replica
-found c = record { settings = settled c .settings-in .result; held = c .read-held .result .held }
+abbrev origin : tie.After-held-at → tie.After-parts-ok
+origin c = c .before .before .before .before .before
 
-abbrev origin : tie.Else3 → tie.After-read-held
-origin c = c .before .before .before .before
+abbrev found : tie.After-held-at → Replica
+found c = record { settings = settled (origin c) .settings-in .result; held = c .held-at .result }
 
-stand : (c : tie.Else3) → let a = start (laid (origin c) .before) .args in Stands (a .replica .now) (found (origin c)) (a .frame .now) (a .command .now)
+stand : (c : tie.After-held-at) → let a = start (laid (origin c) .before) .args in Stands (a .replica .now) (found c) (a .frame .now) (a .command .now)
 stand c =
-    let r = origin c in
-    stands _ (settled r .settings-in .ensures) (passed (c .before .before)) (r .read-held .ensures .1) (sym (c .before .short-area .ensures) ∙ c .if3 .left)
+    let e = c .before .before in
+    stands _ (settled (origin c) .settings-in .ensures) (passed (e .before .before)) (c .held-at .ensures) (sym (e .before .short-area .ensures) ∙ e .if3 .left)
 
 bytes : (c : tie.After-slice-known) → AllBytes (c .before .args .replica .now)
 unfolding AllBytes
@@ -91,15 +91,15 @@ returns c =
 settings-in-requires : tie.Need-settings-in-requires
 settings-in-requires c κs = long (c .before)
 
-read-held-requires : tie.Need-read-held-requires
-read-held-requires c κs = long (c .before .before .before .before .before .before .before .before .before .before)
+parts-ok-requires : tie.Need-parts-ok-requires
+parts-ok-requires c κs = long (c .before .before .before .before .before .before .before .before .before .before)
 
 same-length-2 : tie.Need-same-length-2
 same-length-2 c = search needs
 
 returns-2 : tie.Need-returns-2
 returns-2 c =
-    let r = c .before .before in
+    let r = c .before in
     let a = start (laid r .before) .args in
     refused-record (a .replica .now) (a .frame .now) (a .command .now) _ (sym (is-record r) ∙ not-true _ (c .if2 .taken))
 
@@ -112,8 +112,11 @@ same-length-3 c = search needs
 returns-3 : tie.Need-returns-3
 unfolding tickOutcome
 returns-3 c =
-    let a = start (laid (c .before .before .before .before) .before) .args in
+    let a = start (laid (c .before .before .before) .before) .args in
     refused-areas (a .replica .now) (a .frame .now) (a .command .now) _ (passed (c .before .before)) (sym (c .before .short-area .ensures) ∙ c .if3 .taken)
+
+held-at-requires : tie.Need-held-at-requires
+held-at-requires c κs = omega (arith, long (laid (c .before .before .before .before)))
 
 readings-of-requires : tie.Need-readings-of-requires
 readings-of-requires c κs = search needs
@@ -124,10 +127,10 @@ convert-row-requires c κs = search needs
 tick-requires : tie.Need-tick-requires
 tick-requires c κs =
     let e = c .before .before .before .before .before .before .before .before .before .before in
-    let s = stand e in (settings-lent (found (origin e) .settings) ∙ stands-settings s, stands-room s .frame-room)
+    let s = stand e in (settings-lent (found e .settings) ∙ stands-settings s, stands-room s .frame-room)
 
 leave-requires : tie.Need-leave-requires
-leave-requires c κs = let s = stand (c .before .before .before .before .before .before .before .before .before .before .before .before .before .before .before) in (stands-n s, stands-length s)
+leave-requires c κs = stands-length (stand (c .before .before .before .before .before .before .before .before .before .before .before .before .before .before .before))
 
 same-length-4 : tie.Need-same-length-4
 same-length-4 c = search needs
@@ -151,12 +154,13 @@ winder-tick-spec =
     same-length
     returns
     settings-in-requires
-    read-held-requires
+    parts-ok-requires
     same-length-2
     returns-2
     short-area-requires
     same-length-3
     returns-3
+    held-at-requires
     readings-of-requires
     convert-row-requires
     tick-requires

@@ -1,6 +1,6 @@
 // The byte of present marks, and the values under absent ones.
 ghost use mathlib.Core.Path.{_≡_};
-ghost use mathlib.Core.Bool.{_&&_, _||_};
+ghost use mathlib.Core.Bool.{_||_};
 ghost use Prim.Native.Nat.{_≤_, _^_};
 ghost use Rattle.estimate.specs.Marks.{bit, marksByte, marksIn, marksBelow, absentZero, isZero};
 ghost use Rattle.estimate.specs.Format.{writable};
@@ -71,18 +71,7 @@ pub fn absent_zero(m: usize, y: Readings) -> bool
     true
 }
 
-// Readings that were read: marks at or above m are 0 in their byte, and so are absent values.
-pub fn readings_ok(m: usize, marks: u8, y: Readings) -> bool
-    requires { ⌜ (1 ≤ m) × (m ≤ 4) ⌝ }
-    ensures { λ r. ⌜ r ≡ (marksBelow m marks && absentZero m y) ⌝ }
-{
-    if marks_below(m, marks) {
-        return absent_zero(m, y);
-    }
-    false
-}
-
-// The same of readings that are to be written.
+// Readings that are to be written: no mark at or above m, and each value that is absent is 0.
 pub fn is_writable(m: usize, y: Readings) -> bool
     requires { ⌜ m ≤ 4 ⌝ }
     ensures { λ r. ⌜ r ≡ writable m y ⌝ }

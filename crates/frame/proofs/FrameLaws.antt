@@ -10,7 +10,7 @@ use Rattle.readings.specs.Readings.{normalised}
 use Rattle.estimate.specs.Fields.{noEstimate, carriedEstimate}
 use Rattle.estimate.proofs.EachPart.{normalised-writable}
 use Rattle.frame.specs.Sizes.{sizesOk}
-use Rattle.frame.specs.Kinds.{propose, ack, decide, estimate, anyOf, partsOf, kindOk, partCount, hasParts}
+use Rattle.frame.specs.Kinds.{propose, ack, decide, estimate, partsOf, kindOk, partCount, hasParts}
 use Rattle.frame.specs.Lengths.{frameLength, longestFrame}
 use Rattle.frame.specs.Format.{frameBytes}
 use Rattle.frame.specs.Fields.{Typed, withEstimate, carried}
@@ -24,11 +24,7 @@ use Rattle.frame.proofs.RoundTrip.{read-write}
 
 -- ---- the kinds
 
--- what the table says of each
-pub kinds-known : (kindOk (propose .number) ≡ true) × (kindOk (ack .number) ≡ true) × (kindOk (decide .number) ≡ true) × (kindOk (estimate .number) ≡ true)
-unfolding kindOk anyOf
-kinds-known = (refl, refl, refl, refl)
-
+-- which of them have parts
 pub kinds-parts : (hasParts (propose .number) ≡ true) × (hasParts (ack .number) ≡ false) × (hasParts (decide .number) ≡ true)
     × (hasParts (estimate .number) ≡ true)
 unfolding hasParts partCount partsOf pick

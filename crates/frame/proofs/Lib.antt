@@ -2,6 +2,7 @@
 pub mod Conditions
 pub mod FrameBytes
 pub mod Refusals
+pub mod EachReading
 pub mod CommandReading
 pub mod Forth
 pub mod Back

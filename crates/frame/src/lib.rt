@@ -24,10 +24,12 @@ use command::is_command;
 use command::put_command;
 use estimate::Estimate;
 use estimate::marks::is_writable;
-use estimate::marks::readings_ok;
 use estimate::no_estimate;
 use estimate::parts::estimate_length;
 use estimate::parts::put_estimate;
+use estimate::parts::read_state;
+use estimate::parts::readings_length;
+use estimate::parts::state_length;
 use header::headed_by;
 use header::header_ok;
 use header::put_header;
@@ -38,9 +40,9 @@ use lengths::HEADER_LENGTH;
 use lengths::LONGEST_COMMAND;
 use lengths::LONGEST_FRAME;
 use lengths::PARTS_START;
+use parts::checked_readings;
 use parts::pairs_ok;
 use parts::put_pairs;
-use parts::read_parts;
 
 // The kind is one of `kinds`. Where it has no parts, the bytes carry no estimate.
 pub struct Frame {
@@ -139,7 +141,7 @@ fn refused_write(answer: Answer) -> Written
     Written { answer, length: 0 }
 }
 
-// Reads a frame of n states and m readings.
+// Reads a frame of n states and m readings. Once its pairs are found to say where the parts lie, each part goes to its own reader.
 pub fn read(n: usize, m: usize, bytes: &[u8]) -> Parsed
     ensures answer { λ r. ⌜ number (r .answer) ≡ readRefusal n m (now (bytes .entry)) ⌝ }
     ensures frame { λ r. ⌜ r .frame ≡ readFrame n m (now (bytes .entry)) ⌝ }
@@ -161,13 +163,15 @@ pub fn read(n: usize, m: usize, bytes: &[u8]) -> Parsed
     if !pairs_ok(n, m, bytes) {
         return refused_read(Answer::Malformed);
     }
-    let parts = read_parts(n, m, bytes);
-    let estimate = parts.estimate;
-    let readings = estimate.readings;
-    if !readings_ok(m, parts.marks, readings) {
+    let state_end = PARTS_START + state_length(n);
+    let readings_end = state_end + readings_length(m);
+    let state = read_state(n, &bytes[PARTS_START..state_end]);
+    let checked = checked_readings(m, &bytes[state_end..readings_end]);
+    if !checked.ok {
         return refused_read(Answer::Malformed);
     }
-    let frame = headed_by(bytes, estimate);
+    let readings = checked.readings;
+    let frame = headed_by(bytes, Estimate { state, readings });
     Parsed {
         answer: Answer::Done,
         frame,

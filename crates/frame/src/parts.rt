@@ -1,24 +1,27 @@
-// The pairs of offset and length, and the two parts that they point to.
+// The pairs of offset and length, and the readings' part, which is looked at while it is taken.
 ghost use mathlib.Core.Path.{_≡_};
-ghost use mathlib.Core.Bool.{true};
-ghost use Prim.Native.Nat.{_+_, _≤_};
+ghost use mathlib.Core.Bool.{true, false};
+ghost use Prim.Native.Nat.{_≤_};
 ghost use lib.ListN.{length};
 ghost use Rattle.bytes.specs.Areas.{put};
-ghost use Rattle.estimate.specs.Lengths.{estimateLength};
-ghost use Rattle.estimate.specs.Reading.{marksAt, readingsPart, estimateAt};
+ghost use Rattle.estimate.specs.Lengths.{readingsLength};
+ghost use Rattle.estimate.specs.Reading.{readingsIn, readingsOk};
 ghost use Rattle.frame.specs.Lengths.{pairStart, partsStart};
 ghost use Rattle.frame.specs.Format.{pairs};
 ghost use Rattle.frame.specs.Reading.{pairsOk};
 use crate::lengths::HEADER_LENGTH;
 use crate::lengths::PAIR_LENGTH;
 use crate::lengths::PARTS_START;
+use bytes::values::VALUE_LENGTH;
 use bytes::word::put_u16;
+use bytes::word::signed;
 use bytes::word::u16_at;
-use estimate::Estimate;
-use estimate::parts::read_readings;
-use estimate::parts::read_state;
+use bytes::word::u32_at;
+use estimate::marks::marks_below;
 use estimate::parts::readings_length;
 use estimate::parts::state_length;
+use readings::Readings;
+use readings::no_readings;
 
 // Where the pairs stand: of each part its offset, then its length.
 const STATE_OFFSET: usize = HEADER_LENGTH;
@@ -28,12 +31,6 @@ const STATE_LENGTH: usize = STATE_OFFSET + 2;
 const READINGS_OFFSET: usize = STATE_OFFSET + PAIR_LENGTH;
 
 const READINGS_LENGTH: usize = READINGS_OFFSET + 2;
-
-// What the parts of a frame hold; `marks` is the byte of present marks.
-pub(crate) struct Parts {
-    pub marks: u8,
-    pub estimate: Estimate,
-}
 
 // The state's part is the first, and the readings' part follows it without a gap.
 pub(crate) fn pairs_ok(n: usize, m: usize, bytes: &[u8]) -> bool
@@ -53,25 +50,49 @@ pub(crate) fn pairs_ok(n: usize, m: usize, bytes: &[u8]) -> bool
     u16_at(bytes, READINGS_LENGTH) == readings_length(m)
 }
 
-// Each part goes to its own reader, at the offset and the length that the frame gives.
-pub(crate) fn read_parts(n: usize, m: usize, bytes: &[u8]) -> Parts
-    requires { ⌜ (n ≤ 6) × (m ≤ 4) × (length (now bytes) ≡ partsStart + estimateLength n m)
-        × (pairsOk n m (now bytes) ≡ true) ⌝ }
-    ensures { λ r. ⌜ (r .marks ≡ marksAt (readingsPart n m (now (bytes .entry)) partsStart))
-        × (r .estimate ≡ estimateAt n m (now (bytes .entry)) partsStart) ⌝ }
+// `ok` says that a frame may have the part; only then are these its readings.
+pub(crate) struct Checked {
+    pub ok: bool,
+    pub readings: Readings,
+}
+
+// A part that no frame may have.
+fn refused_part() -> Checked
+    ensures { λ r. ⌜ r .ok ≡ false ⌝ }
 {
-    let state_start = u16_at(bytes, STATE_OFFSET);
-    let state_end = state_start + u16_at(bytes, STATE_LENGTH);
-    let readings_start = u16_at(bytes, READINGS_OFFSET);
-    let readings_end = readings_start + u16_at(bytes, READINGS_LENGTH);
-    let state = read_state(n, &bytes[state_start..state_end]);
-    let part = &bytes[readings_start..readings_end];
-    let marks = part[0];
-    let readings = read_readings(m, part);
-    Parts {
-        marks,
-        estimate: Estimate { state, readings },
+    let readings = no_readings();
+    Checked {
+        ok: false,
+        readings,
     }
+}
+
+// The readings reader: each mark and each value is taken once, and looked at as it is taken. The lowest of the marks that are left is the next.
+pub(crate) fn checked_readings(m: usize, part: &[u8]) -> Checked
+    requires { ⌜ (1 ≤ m) × (m ≤ 4) × (length (now part) ≡ readingsLength m) ⌝ }
+    ensures ok { λ r. ⌜ r .ok ≡ readingsOk m (now (part .entry)) ⌝ }
+    ensures readings { λ r. ⌜ (r .ok ≡ true → r .readings ≡ readingsIn m (now (part .entry))) ⌝ }
+{
+    let mut marks_left = part[0];
+    if !marks_below(m, marks_left) {
+        return refused_part();
+    }
+    let mut present = [false; 4];
+    let mut values = [0i32; 4];
+    let mut j = 0;
+    while j < m {
+        let mark = marks_left % 2 == 1;
+        let value = signed(u32_at(part, 1 + VALUE_LENGTH * j));
+        if !(mark | (value == 0)) {
+            return refused_part();
+        }
+        present[j] = mark;
+        values[j] = value;
+        marks_left = marks_left / 2;
+        j += 1;
+    }
+    let readings = Readings { present, values };
+    Checked { ok: true, readings }
 }
 
 pub(crate) fn put_pairs(n: usize, m: usize, area: &mut [u8])

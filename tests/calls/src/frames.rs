@@ -14,11 +14,23 @@ const BUFFER: usize = LONGEST + 16;
 
 /// What a call of writing leaves behind.
 #[derive(Debug, PartialEq, Eq)]
-struct Written {
+pub struct Written {
     answer: u32,
-    length: usize,
-    buffer: [u8; BUFFER],
+    pub length: usize,
+    pub buffer: [u8; BUFFER],
 }
+
+/// A frame, and the sizes that it is read for.
+pub struct Handed {
+    /// Those that the frame was made for.
+    pub inside: Sizes,
+    /// The same, or with one out of its range.
+    pub asked: Sizes,
+    pub made: Made,
+}
+
+type Read = fn(Sizes, &[u8], &mut Fields) -> u32;
+type Write = fn(Sizes, &Fields, &mut [u8], &mut usize) -> u32;
 
 #[derive(Debug, Default)]
 pub struct Counts {
@@ -35,9 +47,11 @@ pub struct Counts {
 /// The frames of one number. The error says what differs.
 pub fn compare(seed: u64, number: usize, counts: &mut Counts) -> Result<(), String> {
     let prng = &mut Prng::of_script(seed, number);
-    let inside = sizes(prng);
-    let asked = perhaps_outside(prng, inside);
-    let made = damage::make(prng, inside.n, inside.m);
+    let Handed {
+        inside,
+        asked,
+        made,
+    } = handed_to_reader(prng);
     let (answer, fields) = read_by_both(asked, &made.bytes)?;
     counts.count_read(&made, answer);
     if answer == 0 {
@@ -53,12 +67,27 @@ pub fn compare(seed: u64, number: usize, counts: &mut Counts) -> Result<(), Stri
     Ok(())
 }
 
+/// What a number draws first: stored digests rest on it.
+pub fn handed_to_reader(prng: &mut Prng) -> Handed {
+    let inside = sizes(prng);
+    let asked = perhaps_outside(prng, inside);
+    let made = damage::make(prng, inside.n, inside.m);
+    Handed {
+        inside,
+        asked,
+        made,
+    }
+}
+
+/// The answer, and the fields after the call; before it they hold a pattern.
+pub fn read_by(read: Read, sizes: Sizes, bytes: &[u8]) -> (u32, Fields) {
+    let mut fields = pattern();
+    let answer = read(sizes, bytes, &mut fields);
+    (answer, fields)
+}
+
 fn read_by_both(sizes: Sizes, bytes: &[u8]) -> Result<(u32, Fields), String> {
-    let given = |read: fn(_, &_, &mut _) -> u32| {
-        let mut fields = pattern();
-        let answer = read(sizes, bytes, &mut fields);
-        (answer, fields)
-    };
+    let given = |read| read_by(read, sizes, bytes);
     let (first, second) = (given(first::read), given(counterpart::read));
     alike(first, second, &("read", sizes, bytes))
 }
@@ -74,13 +103,15 @@ fn write_back(prng: &mut Prng, sizes: Sizes, fields: &Fields, bytes: &[u8]) -> R
 }
 
 /// Writes into an area of this length.
+pub fn written_by(write: Write, sizes: Sizes, fields: &Fields, length: usize) -> Written {
+    let mut written = Written::default();
+    let area = &mut written.buffer[..length];
+    written.answer = write(sizes, fields, area, &mut written.length);
+    written
+}
+
 fn written_by_both(sizes: Sizes, fields: &Fields, length: usize) -> Result<Written, String> {
-    let given = |write: fn(_, &_, &mut _, &mut _) -> u32| {
-        let mut written = Written::default();
-        let area = &mut written.buffer[..length];
-        written.answer = write(sizes, fields, area, &mut written.length);
-        written
-    };
+    let given = |write| written_by(write, sizes, fields, length);
     let (first, second) = (given(first::write), given(counterpart::write));
     let written = alike(first, second, &("write", sizes, fields, length))?;
     match written.answer == 0 || written.is_untouched() {

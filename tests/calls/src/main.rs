@@ -1,6 +1,7 @@
 //! Compares frames, law calls, conversions of readings, steps, shift pages and
 //! calls on records of the first implementation, through its static libraries
-//! `winder` and `steps`, with the second implementation of document 01.
+//! `winder` and `steps`, with the second implementation of document 01; and
+//! what is read of frames with stored digests.
 
 #![forbid(unsafe_code)]
 
@@ -10,6 +11,8 @@ mod byte_damage;
 mod commands;
 mod counterpart;
 mod damage;
+mod digest;
+mod digests;
 mod draft;
 mod events;
 mod faults;
@@ -57,6 +60,7 @@ use std::{env, str::FromStr};
 
 const USAGE: &str = "usage:
   calls frames COUNT SEED
+  calls digests COUNT SEED [FILE]
   calls law COUNT SEED
   calls singles COUNT SEED
   calls singles all
@@ -84,6 +88,8 @@ fn main() -> ExitCode {
 fn run(words: &[&str]) -> Result<(), String> {
     match words {
         ["frames", count, seed] => compare("frames", frames::compare, count, seed),
+        ["digests", count, seed] => digests::print(number(count)?, number(seed)?),
+        ["digests", count, seed, file] => digests::compare(number(count)?, number(seed)?, file),
         ["law", count, seed] => compare("law calls", law::compare, count, seed),
         ["singles", "all"] => singles::compare_all(),
         ["singles", count, seed] => compare("single conversions", singles::compare, count, seed),

@@ -1,8 +1,10 @@
-//! The second implementation's calls on records, with what the C calls are handed and by their names. None is inlined, so that callgrind has each by
-//! name.
+//! The second implementation's calls on records, with what the C calls are handed and by their names, and its reading of a frame. None is inlined, so
+//! that callgrind has each by name.
 
 use second::calls;
+use second::frame::{self, Frame};
 use second::law::Settings;
+use second::refusal::Refusal;
 use second::replica::Areas;
 
 #[inline(never)]
@@ -39,4 +41,9 @@ pub fn record(record: &[u8], area: &mut [u8]) -> u32 {
 #[inline(never)]
 pub fn r#return(record: &[u8], missed: u32, area: &mut [u8]) -> u32 {
     calls::return_to(record, missed, area)
+}
+
+#[inline(never)]
+pub fn read_frame(n: u8, m: u8, bytes: &[u8]) -> Result<Frame, Refusal> {
+    frame::read(n, m, bytes)
 }

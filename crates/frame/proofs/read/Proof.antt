@@ -1,14 +1,16 @@
 -- `frame::read` meets its contract: each test of the code is one of the conditions, in their order. Assumes nothing.
-use mathlib.Core.Path.{_≡_, sym, ap, _∙_}
-use mathlib.Core.Bool.{true, false, _&&_}
-use Prim.Native.Nat.{_+_}
+use mathlib.Core.Path.{_≡_, refl, sym, ap, _∙_}
+use mathlib.Core.Bool.{true, false}
+use Prim.Native.Nat.{ℕ, _+_, _-_}
 use native.Mathlib.Omega.{arith}
 use borrow.Author.Needs.{needs}
 use borrow.Author.Tests.{not-true, not-false}
 use lib.ListN.{length}
-use Rattle.estimate.specs.Lengths.{estimateLength}
-use Rattle.estimate.specs.Marks.{marksBelow, absentZero}
-use Rattle.estimate.specs.Reading.{readingsOk, estimateAt, estimateOk}
+use Rattle.bytes.specs.Words.{part}
+use Rattle.bytes.proofs.Numbers.{length-part}
+use Rattle.bytes.proofs.Areas.{part-of}
+use Rattle.estimate.specs.Lengths.{stateLength, readingsLength, estimateLength}
+use Rattle.estimate.specs.Reading.{stateIn, readingsIn, readingsOk, statePart, readingsPart, estimateAt, estimateOk}
 use Rattle.frame.specs.Answers.{number}
 use Rattle.frame.specs.Sizes.{sizesOk}
 use Rattle.frame.specs.Kinds.{hasParts}
@@ -70,18 +72,37 @@ given-4 c = given-3 (c .before .before)
 paired : (c : tie.Else4) → pairsOk (given-4 c .args .n) (given-4 c .args .m) (given-4 c .args .bytes .now) ≡ true
 paired c = sym (c .before .pairs-ok .ensures) ∙ not-false _ (c .if4 .left)
 
-abbrev given-5 : tie.After-readings-ok → tie.Start
-given-5 c = given-4 (c .before .before .before .before)
+-- where the code takes the two parts from
+module _ (c : tie.After-readings-length) where
+  abbrev given-5 : tie.Start
+  given-5 = given-4 (c .before .before)
+
+  abbrev end : ℕ
+  end = partsStart + c .before .state-length .result
+
+  state-part : part (given-5 .args .bytes .now) partsStart (end - partsStart) ≡ statePart (given-5 .args .n) (given-5 .args .bytes .now) partsStart
+  state-part = part-of (given-5 .args .bytes .now) partsStart _ _ _ refl (c .before .state-length .ensures)
+
+  readings-part : part (given-5 .args .bytes .now) end (end + c .readings-length .result - end)
+      ≡ readingsPart (given-5 .args .n) (given-5 .args .m) (given-5 .args .bytes .now) partsStart
+  readings-part = part-of _ _ _ _ _ (ap (λ (k : ℕ). partsStart + k) (c .before .state-length .ensures)) (c .readings-length .ensures)
+
+  sized-5 : Sized (given-5 .args .n) (given-5 .args .m)
+  sized-5 = sized (c .before .before .before .before .before .before .before .before .before)
+
+  whole : length (given-5 .args .bytes .now) ≡ partsStart + estimateLength (given-5 .args .n) (given-5 .args .m)
+  whole = with-parts (c .before .before .before .before)
+
+abbrev given-6 : tie.After-checked-readings → tie.Start
+given-6 c = given-5 (c .before .before .before .before)
 
 -- what the last test says of the parts
-judged : (c : tie.After-readings-ok) → c .readings-ok .result ≡ partsOk (given-5 c .args .n) (given-5 c .args .m) (given-5 c .args .bytes .now)
-unfolding partsOk estimateOk readingsOk estimateAt
+judged : (c : tie.After-checked-readings)
+    → c .checked-readings .result .ok ≡ partsOk (given-6 c .args .n) (given-6 c .args .m) (given-6 c .args .bytes .now)
+unfolding partsOk estimateOk
 judged c =
-    let m = given-5 c .args .m in
-    let p = c .before .before .before .read-parts .ensures in
-    c .readings-ok .ensures
-    ∙ (λ i. marksBelow m (p .0 i) && absentZero m (p .1 i .readings))
-    ∙ rw (paired (c .before .before .before .before))
+    let u = c .before .before .before .before in
+    c .checked-readings .ensures .0 ∙ ap (readingsOk (given-6 c .args .m)) (readings-part u) ∙ rw (paired (u .before .before))
 
 -- ---- what is to be shown
 
@@ -150,36 +171,90 @@ returns-4 c =
     (in-parts passed ∙ rw (sym (c .before .before .pairs-ok .ensures) ∙ not-true _ (c .before .if4 .taken))) in
     (ap number (c .refused-read3 .ensures .0) ∙ sym e, c .refused-read3 .ensures .1 ∙ sym (no-frame (a .n) (a .m) (a .bytes .now) 7 e))
 
-read-parts-requires : tie.Need-read-parts-requires
-read-parts-requires c κs =
-    let s = sized (c .before .before .before .before .before .before .before) in (s .n-high, s .m-high, with-parts (c .before .before), paired c)
+state-length-requires : tie.Need-state-length-requires
+state-length-requires c κs = sized (c .before .before .before .before .before .before .before) .n-high
 
-readings-ok-requires : tie.Need-readings-ok-requires
-readings-ok-requires c κs = let s = sized (c .before .before .before .before .before .before .before .before .before .before) in (s .m-low, s .m-high)
+add-state-end : tie.Need-add-state-end
+add-state-end c =
+    let s = sized (c .before .before .before .before .before .before .before .before) in omega (arith, c .state-length .ensures, s .n-high)
+
+readings-length-requires : tie.Need-readings-length-requires
+readings-length-requires c κs = sized (c .before .before .before .before .before .before .before .before) .m-high
+
+add-readings-end : tie.Need-add-readings-end
+add-readings-end c =
+    let s = sized-5 c in omega (arith, c .before .state-length .ensures, c .readings-length .ensures, s .n-high, s .m-high)
+
+sub-read-state : tie.Need-sub-read-state
+sub-read-state c = search needs
+
+part-read-state-start : tie.Need-part-read-state-start
+part-read-state-start c = search needs
+
+part-read-state-end : tie.Need-part-read-state-end
+part-read-state-end c = omega (arith, c .before .state-length .ensures, whole c)
+
+read-state-requires : tie.Need-read-state-requires
+read-state-requires c κs =
+    let u = c .before in
+    let a = given-5 u .args in (
+      sized-5 u .n-high,
+      ap length (state-part u) ∙ length-part (a .bytes .now) partsStart (stateLength (a .n)) (omega (arith, whole u)),
+    )
+
+sub-checked-readings : tie.Need-sub-checked-readings
+sub-checked-readings c = search needs
+
+part-checked-readings-start : tie.Need-part-checked-readings-start
+part-checked-readings-start c = search needs
+
+part-checked-readings-end : tie.Need-part-checked-readings-end
+part-checked-readings-end c =
+    let u = c .before .before in omega (arith, u .before .state-length .ensures, u .readings-length .ensures, whole u)
+
+checked-readings-requires : tie.Need-checked-readings-requires
+checked-readings-requires c κs =
+    let u = c .before .before .before in
+    let a = given-5 u .args in
+    let s = sized-5 u in (
+      s .m-low,
+      s .m-high,
+      ap length (readings-part u)
+          ∙ length-part (a .bytes .now) (partsStart + stateLength (a .n)) (readingsLength (a .m)) (omega (arith, whole u)),
+    )
 
 refused-read-requires-4 : tie.Need-refused-read-requires-4
 refused-read-requires-4 c κs = search needs
 
 returns-5 : tie.Need-returns-5
 returns-5 c =
-    let passed = c .before .before .before .before .before .before .before .before in
+    let called = c .before .before .before in
+    let passed = called .before .before .before .before .before .before .before .before in
     let a = given-3 passed .args in
-    let bad = sym (judged (c .before .before)) ∙ not-true _ (c .before .if5 .taken) in
+    let bad = sym (judged called) ∙ not-true _ (c .before .if5 .taken) in
     let e = malformed (passed .before .before .before .before .before) (in-parts passed ∙ bad) in
     (ap number (c .refused-read4 .ensures .0) ∙ sym e, c .refused-read4 .ensures .1 ∙ sym (no-frame (a .n) (a .m) (a .bytes .now) 7 e))
 
 headed-by-requires-2 : tie.Need-headed-by-requires-2
-headed-by-requires-2 c κs = header-there _ _ _ (header (c .before .before .before .before .before .before .before .before .before .before))
+headed-by-requires-2 c κs =
+    let passed = c .before .before .before .before .before .before .before .before .before .before .before in
+    header-there _ _ _ (header (passed .before .before .before))
 
 returns-6 : tie.Need-returns-6
+unfolding estimateAt
 returns-6 c =
-    let passed = c .before .before .before .before .before .before .before .before in
+    let called = c .before .before .before .before in
+    let u = called .before .before .before .before in
+    let passed = u .before .before .before .before in
     let a = given-3 passed .args in
-    let good = sym (judged (c .before .before)) ∙ not-false _ (c .before .if5 .left) in
-    let e = read-done (a .n) (a .m) (a .bytes .now) (sized-test (passed .before .before .before .before .before)) (in-parts passed ∙ good) in (
+    let found = not-false _ (c .before .before .if5 .left) in
+    let good = in-parts passed ∙ sym (judged called) ∙ found in
+    let e = read-done (a .n) (a .m) (a .bytes .now) (sized-test (passed .before .before .before .before .before)) good in
+    let state = called .before .before .read-state .ensures ∙ ap (stateIn (a .n)) (state-part u) in
+    let readings = called .checked-readings .ensures .1 found ∙ ap (readingsIn (a .m)) (readings-part u) in (
       sym e,
       c .headed-by2 .ensures
-          ∙ ap (headed (a .bytes .now)) (c .before .before .before .before .before .read-parts .ensures .1)
+          ∙ (λ i. headed (a .bytes .now) (record { state = state i; readings = readings i }))
           ∙ sym (frame-read (a .n) (a .m) (a .bytes .now) e ∙ parts-fields (a .n) (a .m) (a .bytes .now) (parts-test passed)),
     )
 
@@ -201,8 +276,18 @@ read-spec =
     pairs-ok-requires
     refused-read-requires-3
     returns-4
-    read-parts-requires
-    readings-ok-requires
+    state-length-requires
+    add-state-end
+    readings-length-requires
+    add-readings-end
+    sub-read-state
+    part-read-state-start
+    part-read-state-end
+    read-state-requires
+    sub-checked-readings
+    part-checked-readings-start
+    part-checked-readings-end
+    checked-readings-requires
     refused-read-requires-4
     returns-5
     headed-by-requires-2

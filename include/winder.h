@@ -12,11 +12,14 @@
  * goes there as it is; winder_convert_single makes mark and value of a single in newtons.
  *
  * A replica is its record: WINDER_RECORD bytes, laid out as docs/RECORD.md says, that a host keeps, lends to each call, and stores. No call
- * keeps anything else of it.
+ * keeps anything else of it. A host that asks what a step would give before the step is made keeps a replica with tickets instead:
+ * WINDER_TICKETED bytes, the record and the tickets behind it. It stores records alone. Each call takes one of the two, and refuses the
+ * other by 15.
  *
  * Results. Each call but winder_version and winder_convert_single returns 0, or the number of a refusal (enum winder_refusal); the lowest
  * number comes first, but for 15, which comes first of all where a call is lent a replica. A step of a replica may also return
- * WINDER_IGNORED. Refused or ignored, every area holds what it held; but for the lengths that a step has written, which are then 0.
+ * WINDER_IGNORED, and so may an ask. Refused or ignored, every area holds what it held; but for the lengths that a step or an ask has
+ * written, which are then 0, and for the tickets of an ask (see there).
  *
  * Asked of the caller: no pointer is null, not even one with the length 0; and an area that a call writes overlaps no other area of
  * that call. Nothing else is asked: any numbers may stand in the areas. The functions keep nothing between calls, and of the C library
@@ -32,8 +35,8 @@
  * The version: major version times 100, and minor version. A further call makes a new minor version; a call that is gone or means
  * something else makes a new major one. winder_version says for which version the archive was made.
  */
-#define WINDER_VERSION 103
-#define WINDER_VERSION_TEXT "1.3"
+#define WINDER_VERSION 104
+#define WINDER_VERSION_TEXT "1.4"
 
 /* The most states, readings and commands; the least of each is 1. */
 #define WINDER_STATES_MAX 6
@@ -56,7 +59,10 @@
 #define WINDER_RECORD 616
 #define WINDER_MISSED_MAX 10000
 
-/* What a step returns where the event was ignored. */
+/* The length of a replica with tickets. */
+#define WINDER_TICKETED 752
+
+/* What a step or an ask returns where the event was ignored. */
 #define WINDER_IGNORED 256
 
 /* The kinds of readings that a tick takes; a kind of any other number is a missing reading too. */
@@ -79,7 +85,7 @@ enum winder_refusal {
     WINDER_REFUSED_SIZES = 2,       /* n, m or p outside its range */
     WINDER_REFUSED_COEFFICIENT = 3, /* a coefficient outside its range */
     WINDER_REFUSED_LIMITS = 4,      /* a lower limit above its upper */
-    WINDER_REFUSED_AREA = 5,        /* a frame area under 69 bytes, a command area under 24 or a record area under 616 */
+    WINDER_REFUSED_AREA = 5,        /* an area under 69 bytes for a frame, 24 for a command, 616 for a record, 752 with tickets */
     WINDER_REFUSED_LAST_PERIOD = 6, /* a tick in period 4,294,967,295 */
     WINDER_REFUSED_MARK = 7,        /* a reading present in a place at or above m */
     WINDER_REFUSED_FRAME = 8,       /* no frame: length, kind, part count, byte 3, pairs, marks or absent values; or no command */
@@ -89,8 +95,9 @@ enum winder_refusal {
     WINDER_REFUSED_LAST_VIEW = 12,  /* a view to be raised that is 4,294,967,295 */
     WINDER_REFUSED_PAGE_AREA = 13,  /* a page area under 4,380 bytes */
     WINDER_REFUSED_PERIODS = 14,    /* more than 60 distinct periods */
-    WINDER_REFUSED_RECORD = 15,     /* no record: docs/RECORD.md has the conditions */
-    WINDER_REFUSED_MISSED = 16      /* more than 10,000 missed periods, or a period or view that would pass its largest value */
+    WINDER_REFUSED_RECORD = 15,     /* no record, or no replica with tickets: docs/RECORD.md has the conditions */
+    WINDER_REFUSED_MISSED = 16,     /* more than 10,000 missed periods, or a period or view that would pass its largest value */
+    WINDER_REFUSED_TICKET = 17      /* a ticket not the latest ask's, void or committed, or that ask ignored or refused */
 };
 
 /* What the law is given once: sizes, tables and limits. */
@@ -413,6 +420,124 @@ uint32_t winder_return(
     uint32_t missed,
     uint8_t *replica,
     size_t replica_length);
+
+/*
+ * Puts tickets beside a replica that was made or has returned: none was given yet. replica is the record that winder_make or winder_return
+ * wrote.
+ *
+ * Out: area starts with the replica with tickets, and bytes after it keep what they held. The calls below take its WINDER_TICKETED bytes
+ * alone.
+ *
+ * Refuses by 15, then by 5 for an area_length under 752.
+ */
+uint32_t winder_tickets(
+    const uint8_t *replica,
+    size_t replica_length,
+    uint8_t *area,
+    size_t area_length);
+
+/*
+ * The three asks: what a step would give, without the step. replica is a replica with tickets, of which the record stays as it is.
+ * replica_length is 752, else the ask is refused by 15.
+ *
+ * Out: where the answer is 0, area starts with the record of the replica after the step, frame with the frame that it would send, command
+ * with the command that it would issue, and bytes after them keep what they held. lengths holds the length written to frame and to command,
+ * ticket the ticket of this ask: both are written whatever the answer is. Nothing is to be sent before the ticket is committed.
+ *
+ * Tickets count from 1. An ask of any answer but 15 takes the next one and voids the one before; its own can be committed where the answer
+ * is 0. After ticket 18,446,744,073,709,551,615 an ask is ignored whatever else is wrong, but for 15: it voids that ticket, and its own is 0.
+ * Refused by 15, an ask leaves the tickets as they were, and its own is 0.
+ *
+ * Each refuses by 15, then by 5 for an area_length under 616, a frame_length under 69 or a command_length under 24, then as its step does.
+ */
+uint32_t winder_ask_tick(
+    uint8_t *replica,
+    size_t replica_length,
+    const uint8_t kinds[4],
+    const uint32_t bits[4],
+    uint8_t *area,
+    size_t area_length,
+    uint8_t *frame,
+    size_t frame_length,
+    uint8_t *command,
+    size_t command_length,
+    size_t lengths[2],
+    uint64_t ticket[1]);
+
+uint32_t winder_ask_give_up(
+    uint8_t *replica,
+    size_t replica_length,
+    uint8_t *area,
+    size_t area_length,
+    uint8_t *frame,
+    size_t frame_length,
+    uint8_t *command,
+    size_t command_length,
+    size_t lengths[2],
+    uint64_t ticket[1]);
+
+uint32_t winder_ask_arrive(
+    uint8_t *replica,
+    size_t replica_length,
+    const uint8_t *bytes,
+    size_t bytes_length,
+    uint8_t *area,
+    size_t area_length,
+    uint8_t *frame,
+    size_t frame_length,
+    uint8_t *command,
+    size_t command_length,
+    size_t lengths[2],
+    uint64_t ticket[1]);
+
+/*
+ * Commits a ticket: makes the very step that its ask was for. To be called once the record that the ask gave is stored; what it wrote to
+ * frame and command may be sent after that, and is not written again. replica: in, a replica with tickets; out, the same after the step. The
+ * ticket cannot be committed again.
+ *
+ * Refuses by 15, then by 17.
+ */
+uint32_t winder_commit(
+    uint8_t *replica,
+    size_t replica_length,
+    uint64_t ticket);
+
+/*
+ * The three steps of a replica with tickets, without an ask: as winder_tick, winder_give_up and winder_arrive. replica_length is 752, else
+ * the step is refused by 15. Where the answer is 0 the latest ticket is void; where it is not, the tickets are as they were.
+ *
+ * Each refuses by 15, then by 5 for a frame_length under 69 or a command_length under 24, then as the step without tickets does.
+ */
+uint32_t winder_ticketed_tick(
+    uint8_t *replica,
+    size_t replica_length,
+    const uint8_t kinds[4],
+    const uint32_t bits[4],
+    uint8_t *frame,
+    size_t frame_length,
+    uint8_t *command,
+    size_t command_length,
+    size_t lengths[2]);
+
+uint32_t winder_ticketed_give_up(
+    uint8_t *replica,
+    size_t replica_length,
+    uint8_t *frame,
+    size_t frame_length,
+    uint8_t *command,
+    size_t command_length,
+    size_t lengths[2]);
+
+uint32_t winder_ticketed_arrive(
+    uint8_t *replica,
+    size_t replica_length,
+    const uint8_t *bytes,
+    size_t bytes_length,
+    uint8_t *frame,
+    size_t frame_length,
+    uint8_t *command,
+    size_t command_length,
+    size_t lengths[2]);
 
 #ifdef __cplusplus
 }

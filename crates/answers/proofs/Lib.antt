@@ -7,4 +7,6 @@ mod Frames
 mod Pages
 mod Records
 mod RecordAreas
+pub mod Asks
+mod TicketAreas
 pub mod Theorem

@@ -39,7 +39,7 @@ module _ {State Readings Values : Type 0} where
     refuses number i =
         record { listed = listed possible t (Refused number) i; among = i; kept = λ _. record { held = refl; sent = refl; command = refl } }
 
-    ignores : In Ignored possible → Step possible s (ignoring s)
+    pub ignores : In Ignored possible → Step possible s (ignoring s)
     ignores i = record { listed = tt; among = i; kept = λ _. record { held = refl; sent = refl; command = refl } }
 
     does : In Done possible → (o : Outcome State Readings Values) → Does o → Step possible s o

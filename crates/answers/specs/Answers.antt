@@ -37,6 +37,10 @@ records = 15 ∷ []
 abbrev pub missed : List ℕ
 missed = 16 ∷ []
 
+-- the place of document 02's 17: a commit
+abbrev pub commit : List ℕ
+commit = 17 ∷ []
+
 -- ---- what each call can answer: nothing that is not in its list
 
 -- "Making settings refuses without a replica."
@@ -96,6 +100,24 @@ stayingUp = Done ∷ map Refused missed
 abbrev pub returning : List Answered
 returning = Done ∷ map Refused (records ++ missed)
 
+-- ---- asking first, of document 02: an ask is lent one area more, which 5 looks at too
+
+-- "an ask after the largest is ignored before any check": so an asked tick may be ignored
+abbrev pub askingTick : List Answered
+askingTick = Done ∷ Ignored ∷ map Refused (settings ++ areas ++ tick ++ raising)
+
+-- an asked give-up answers what a give-up can
+abbrev pub askingGiveUp : List Answered
+askingGiveUp = givingUp
+
+-- and a frame asked for what one that arrives can
+abbrev pub askingArrive : List Answered
+askingArrive = arriving
+
+-- "at commit: 17"
+abbrev pub committing : List Answered
+committing = Done ∷ map Refused commit
+
 -- ---- the calls of C programs, where "a replica is its record; one that 15 would refuse gets 15 before the lent areas"
 
 -- making writes a record: the settings, then the area for it
@@ -122,6 +144,20 @@ recordingRecord = Done ∷ map Refused (records ++ areas)
 abbrev pub returningRecord : List Answered
 returningRecord = Done ∷ map Refused (records ++ areas ++ missed)
 
+-- ---- and where a replica lies with its tickets in one area, which 15 looks at before all else
+
+-- tickets for a record: the record, then the area
+abbrev pub addingTickets : List Answered
+addingTickets = Done ∷ map Refused (records ++ areas)
+
+-- an asked tick
+abbrev pub askingTickArea : List Answered
+askingTickArea = Done ∷ Ignored ∷ map Refused (records ++ areas ++ tick ++ raising)
+
+-- a commit
+abbrev pub committingArea : List Answered
+committingArea = Done ∷ map Refused (records ++ commit)
+
 -- ---- the claim about one call
 
 -- a number as an answer: 0 is "what was called for", another number is that refusal
@@ -132,11 +168,11 @@ numbered number = pick (eqb number 0) Done (Refused number)
 abbrev pub numberedStep : ℕ → Answered
 numberedStep number = pick (eqb number 256) Ignored (numbered number)
 
--- "what was called for, an event ignored, or one of the numbered refusals"; the table has the numbers 1 to 12, which document 02's 13 to 16 join
+-- "what was called for, an event ignored, or one of the numbered refusals"; the table has the numbers 1 to 12, which document 02's 13 to 17 join
 abbrev pub Listed : Answered → Type 0
 Listed Done = Unit {0}
 Listed Ignored = Unit {0}
-Listed (Refused number) = (1 ≤ number) × (number ≤ 16)
+Listed (Refused number) = (1 ≤ number) × (number ≤ 17)
 
 -- "Every call, with all inputs, answers: what was called for, an event ignored, or one of the numbered refusals. Ignored or refused, the replica and
 -- each lent area hold what they held." `possible` are the answers of this call, and `Kept` says what holds what it held

@@ -55,11 +55,19 @@ use Rattle.records.specs.declared.returning.Returned.{Returned}
 use Rattle.records.specs.Recording.{recordAnswer, recorded}
 use Rattle.records.specs.Reading.{readAnswer, readReplica}
 use Rattle.records.specs.Returning.{stayAnswer, stayed, returnAnswer, returned}
+use Rattle.ticketed.specs.Calls.{ticketsRefusal, withTickets, askAt, committingRefusal, committing as committingAt, stepAt as ticketedAt}
+use Rattle.winder.specs.TicketAreas.{Asks as AreaAsks, Steps as AreaSteps}
+use Rattle.asks.specs.declared.Ticketed.{Ticketed}
+use Rattle.asks.specs.declared.Asked.{Asked}
+use Rattle.asks.specs.declared.Committed.{Committed}
+use Rattle.asks.specs.declared.Stepped.{Stepped as TicketedStep}
+use Rattle.asks.specs.Asking.{askOutcome, Asks, Steps as AskSteps, commitAnswer, committed}
 use Rattle.answers.specs.Answers.{Answers, numbered, numberedStep}
 use Rattle.answers.specs.Answers.{making, ticking, givingUp, arriving, usingLaw, reading, writing, writingCommand, writingPage, readingPage}
 use Rattle.answers.specs.Answers.{recording, readingRecord, stayingUp, returning}
+use Rattle.answers.specs.Answers.{askingTick, askingGiveUp, askingArrive, committing, addingTickets, askingTickArea, committingArea}
 use Rattle.answers.specs.Answers.{makingRecord, tickingRecord, givingUpRecord, arrivingRecord, recordingRecord, returningRecord}
-use Rattle.answers.specs.Kept.{StepKept, NoReplica, RecordStepKept, WriteKept, PageKept, FrameAreas, CommandAreas, WriteAreas}
+use Rattle.answers.specs.Kept.{StepKept, NoReplica, RecordStepKept, AskKept, TicketedKept, AskAreaKept, WriteKept, PageKept, FrameAreas, CommandAreas, WriteAreas}
 
 -- ---- the replica's calls
 
@@ -153,6 +161,26 @@ ReturnAnswers missed bytes =
     (r : Returned) → answered (r .answer) ≡ returnAnswer missed bytes → r .replica ≡ returned missed bytes
     → Answers returning (answered (r .answer)) (NoReplica (r .replica))
 
+-- ---- the calls of a replica with tickets
+
+-- an ask whose event has the outcome o: area, frame and command are the areas lent
+abbrev pub AskAnswers : List Answered → Ticketed → Outcomes → (area frame command : List ℕ) → Type 0
+AskAnswers possible given o area frame command =
+    (r : Asked) (area′ frame′ command′ : List ℕ) → Asks given (askOutcome given (length area) o) r area area′ frame frame′ command command′
+    → Answers possible (answered (r .answer)) (AskKept given r area area′ frame frame′ command command′)
+
+-- a commit: refused, it leaves all as it was
+abbrev pub CommitAnswers : Ticketed → (ticket : ℕ) → Type 0
+CommitAnswers given ticket =
+    (r : Committed) → answered (r .answer) ≡ commitAnswer given ticket → r .ticketed ≡ committed given ticket
+    → Answers committing (answered (r .answer)) (r .ticketed ≡ given)
+
+-- a step that was not asked, with the outcome o
+abbrev pub TicketedAnswers : List Answered → Ticketed → Outcomes → (frame command : List ℕ) → Type 0
+TicketedAnswers possible given o frame command =
+    (r : TicketedStep) (frame′ command′ : List ℕ) → AskSteps given o r frame frame′ command command′
+    → Answers possible (answered (r .answer)) (TicketedKept given r frame frame′ command command′)
+
 -- ---- the calls of C programs: they answer by the number alone
 
 -- winder_update
@@ -227,6 +255,31 @@ ReturnAreaAnswers missed stored replica =
     → replica′ ≡ over (returningAt missed stored (length replica)) replica
     → Answers returningRecord (numbered r) (replica′ ≡ replica)
 
+-- winder_tickets
+abbrev pub TicketsAreaAnswers : (replica area : List ℕ) → Type 0
+TicketsAreaAnswers replica area =
+    (r : ℕ) (area′ : List ℕ) → r ≡ ticketsRefusal replica (length area) → area′ ≡ over (withTickets replica (length area)) area
+    → Answers addingTickets (numbered r) (area′ ≡ area)
+
+-- winder_ask_tick, winder_ask_give_up and winder_ask_arrive, with the outcome o: area is for the record, and lengths and ticket are written in any case
+abbrev pub AskAreaAnswers : List Answered → (replica : List ℕ) → Outcomes → (area frame command : List ℕ) → Type 0
+AskAreaAnswers possible replica o area frame command =
+    (r : ℕ) (replica′ lengths ticket area′ frame′ command′ : List ℕ)
+    → AreaAsks replica o r replica′ lengths ticket area area′ frame frame′ command command′
+    → Answers possible (numberedStep r) (AskAreaKept replica replica′ lengths area area′ frame frame′ command command′)
+
+-- winder_commit
+abbrev pub CommitAreaAnswers : (replica : List ℕ) (ticket : ℕ) → Type 0
+CommitAreaAnswers replica ticket =
+    (r : ℕ) (replica′ : List ℕ) → r ≡ committingRefusal replica ticket → replica′ ≡ committingAt replica ticket
+    → Answers committingArea (numbered r) (replica′ ≡ replica)
+
+-- winder_ticketed_tick, winder_ticketed_give_up and winder_ticketed_arrive
+abbrev pub TicketedAreaAnswers : List Answered → (replica : List ℕ) → Outcomes → (frame command : List ℕ) → Type 0
+TicketedAreaAnswers possible replica o frame command =
+    (r : ℕ) (replica′ lengths frame′ command′ : List ℕ) → AreaSteps replica o r replica′ lengths frame frame′ command command′
+    → Answers possible (numberedStep r) (RecordStepKept replica replica′ lengths frame frame′ command command′)
+
 -- ---- demand 1: every call, with all inputs
 
 pub record DemandOne : Type 0 where
@@ -261,6 +314,20 @@ pub record DemandOne : Type 0 where
   pub read-record : (bytes : List ℕ) → ReadRecordAnswers bytes
   pub stay-up : (given : Replica) (missed : ℕ) → StayAnswers missed given
   pub return-from : (bytes : List ℕ) (missed : ℕ) → ReturnAnswers missed bytes
+  -- crate asks
+  pub ask-tick : (given : Ticketed) (y : List Reading) (area frame command : List ℕ)
+      → AskAnswers askingTick given (tickOutcome (given .replica) (convertedRow y) (length frame) (length command)) area frame command
+  pub ask-give-up : (given : Ticketed) (area frame command : List ℕ)
+      → AskAnswers askingGiveUp given (giveUpOutcome (given .replica) (length frame) (length command)) area frame command
+  pub ask-arrive : (given : Ticketed) (bytes area frame command : List ℕ)
+      → AskAnswers askingArrive given (arriveOutcome (given .replica) bytes (length frame) (length command)) area frame command
+  pub commit : (given : Ticketed) (ticket : ℕ) → CommitAnswers given ticket
+  pub ticketed-tick : (given : Ticketed) (y : List Reading) (frame command : List ℕ)
+      → TicketedAnswers ticking given (tickOutcome (given .replica) (convertedRow y) (length frame) (length command)) frame command
+  pub ticketed-give-up : (given : Ticketed) (frame command : List ℕ)
+      → TicketedAnswers givingUp given (giveUpOutcome (given .replica) (length frame) (length command)) frame command
+  pub ticketed-arrive : (given : Ticketed) (bytes frame command : List ℕ)
+      → TicketedAnswers arriving given (arriveOutcome (given .replica) bytes (length frame) (length command)) frame command
   -- crate winder
   pub winder-update : (n m p : ℕ) (a l c k low high : List ℤ) (present : List ℕ) (values state : List ℤ)
       → UpdateAreaAnswers (settingsOf n m p a l c k low high) present values state
@@ -282,3 +349,19 @@ pub record DemandOne : Type 0 where
       → StepAreaAnswers arrivingRecord replica (stepAt replica (λ x. arriveOutcome x bytes (length frame) (length command))) frame command
   pub winder-record : (replica area : List ℕ) → RecordAreaAnswers replica area
   pub winder-return : (stored : List ℕ) (missed : ℕ) (replica : List ℕ) → ReturnAreaAnswers missed stored replica
+  pub winder-tickets : (replica area : List ℕ) → TicketsAreaAnswers replica area
+  pub winder-ask-tick : (replica kinds bits area frame command : List ℕ)
+      → let y = convertedRow (readingsByKind kinds bits) in
+      AskAreaAnswers askingTickArea replica (askAt replica (length area) (λ x. tickOutcome x y (length frame) (length command))) area frame command
+  pub winder-ask-give-up : (replica area frame command : List ℕ)
+      → AskAreaAnswers givingUpRecord replica (askAt replica (length area) (λ x. giveUpOutcome x (length frame) (length command))) area frame command
+  pub winder-ask-arrive : (replica bytes area frame command : List ℕ)
+      → AskAreaAnswers arrivingRecord replica (askAt replica (length area) (λ x. arriveOutcome x bytes (length frame) (length command))) area frame command
+  pub winder-commit : (replica : List ℕ) (ticket : ℕ) → CommitAreaAnswers replica ticket
+  pub winder-ticketed-tick : (replica kinds bits frame command : List ℕ)
+      → let y = convertedRow (readingsByKind kinds bits) in
+      TicketedAreaAnswers tickingRecord replica (ticketedAt replica (λ x. tickOutcome x y (length frame) (length command))) frame command
+  pub winder-ticketed-give-up : (replica frame command : List ℕ)
+      → TicketedAreaAnswers givingUpRecord replica (ticketedAt replica (λ x. giveUpOutcome x (length frame) (length command))) frame command
+  pub winder-ticketed-arrive : (replica bytes frame command : List ℕ)
+      → TicketedAreaAnswers arrivingRecord replica (ticketedAt replica (λ x. arriveOutcome x bytes (length frame) (length command))) frame command

@@ -10,6 +10,10 @@ use Rattle.pages.specs.declared.writing.Written.{Written as PageWritten}
 use Rattle.replica.specs.declared.Replica.{Replica}
 use Rattle.replica.specs.declared.Stepped.{Stepped}
 use Rattle.replica.specs.Calls.{tickOutcome, giveUpOutcome, arriveOutcome}
+use Rattle.asks.specs.declared.Ticketed.{Ticketed}
+use Rattle.asks.specs.declared.Asked.{Asked}
+use Rattle.asks.specs.declared.Stepped.{Stepped as TicketedStep}
+use Rattle.ticketed.specs.Reading.{recordOf}
 
 -- ---- the replica's calls
 
@@ -32,6 +36,34 @@ pub record NoReplica (r : Replica) : Type 0 where
 -- writes are 0, whatever the caller had there
 pub record RecordStepKept (b b′ lengths frame frame′ command command′ : List ℕ) : Type 0 where
   pub replica : b′ ≡ b
+  pub frame-area : frame′ ≡ frame
+  pub command-area : command′ ≡ command
+  pub no-bytes : lengths ≡ 0 ∷ 0 ∷ []
+
+-- ---- the calls of a replica with tickets
+
+-- an ask that was ignored or refused left the replica and the three areas, to the last byte, as they were. It has a ticket all the same, and the ticket before
+-- is void
+pub record AskKept (given : Ticketed) (r : Asked) (area area′ frame frame′ command command′ : List ℕ) : Type 0 where
+  pub replica : r .ticketed .replica ≡ given .replica
+  pub lent-area : area′ ≡ area
+  pub frame-area : frame′ ≡ frame
+  pub command-area : command′ ≡ command
+  pub no-frame : r .frame ≡ 0
+  pub no-command : r .command ≡ 0
+
+-- a step that was not asked left the replica, its tickets and both areas as they were
+pub record TicketedKept (given : Ticketed) (r : TicketedStep) (frame frame′ command command′ : List ℕ) : Type 0 where
+  pub ticketed : r .ticketed ≡ given
+  pub frame-area : frame′ ≡ frame
+  pub command-area : command′ ≡ command
+  pub no-frame : r .frame ≡ 0
+  pub no-command : r .command ≡ 0
+
+-- an ask for C, at a replica with tickets in b, left its record and the three areas, to the last byte, as they were, and wrote 0 for the two lengths
+pub record AskAreaKept (b b′ lengths area area′ frame frame′ command command′ : List ℕ) : Type 0 where
+  pub replica : recordOf b′ ≡ recordOf b
+  pub lent-area : area′ ≡ area
   pub frame-area : frame′ ≡ frame
   pub command-area : command′ ≡ command
   pub no-bytes : lengths ≡ 0 ∷ 0 ∷ []

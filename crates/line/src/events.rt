@@ -4,10 +4,14 @@ ghost use mathlib.Core.Bool.{_&&_, _||_};
 ghost use Prim.Native.Nat.{_+_, _≤_};
 ghost use lib.Dec.{eqb};
 ghost use lib.ListN.{set};
-ghost use Rattle.line.specs.Events.{letterOf, boxOf, readingIn, isGiven, allReadings, place, readingsOf, rowOf, readWith, missingRow, calls as Events·calls, tickCalled, giveUpCalled, deliveryCalled, storeCalled, returnCalled, powerCalled, calledFor, called};
+ghost use Rattle.line.specs.Events.{letterOf, boxOf, readingIn, isGiven, allReadings, place, readingsOf, rowOf, readWith, missingRow, calls as Events·calls, tickCalled, giveUpCalled, deliveryCalled, storeCalled, returnCalled, commitCalled, powerCalled, calledFor, isTaken, askCalled, storeAskedCalled, twoCalled, wordCalled, called};
 use crate::fields::count_spaces;
 use crate::fields::field;
 use crate::singles::single_in;
+use crate::ticket::Ticket;
+use crate::ticket::is_ticket;
+use crate::ticket::number_of;
+use crate::ticket::ticket_in;
 use text::numbers::Magnitude;
 use text::numbers::count_of;
 use text::numbers::is_size;
@@ -19,13 +23,15 @@ use text::numbers::value_of;
 use transmitters::Reading;
 
 // A tick at a box; a view given up by a box; the frame that a line sent, delivered to a box; the record of a box stored; a box that comes back, with so
-// many missed periods.
+// many missed periods; a ticket that a box commits; the record that the latest ask of a box gave, stored.
 pub enum Event {
     Tick(u8),
     GiveUp(u8),
     Deliver(u8, u32),
     Store(u8),
     Return(u8, u32),
+    Commit(u8, u64),
+    StoreAsked(u8),
     Bad,
 }
 
@@ -34,9 +40,10 @@ pub struct Place {
     pub reading: Reading,
 }
 
-// What a line calls for, and the readings of a tick.
+// What a line calls for: an event, whether it is asked only, and the readings of a tick.
 pub struct Called {
     pub event: Event,
+    pub asks: bool,
     pub readings: [Place; 4],
 }
 
@@ -158,12 +165,16 @@ fn row_in(of_rig: bool, m: usize, line: &[u8]) -> Row
     row
 }
 
-// A line that is no tick has no reading.
+// A line that is no tick has no reading. It asks nothing.
 fn calls(event: Event) -> Called
     ensures { λ r. ⌜ r ≡ Events·calls event ⌝ }
 {
     let readings = missing();
-    Called { event, readings }
+    Called {
+        event,
+        asks: false,
+        readings,
+    }
 }
 
 fn tick(of_rig: bool, at: u8, m: usize, count: usize, line: &[u8]) -> Called
@@ -179,7 +190,11 @@ fn tick(of_rig: bool, at: u8, m: usize, count: usize, line: &[u8]) -> Called
     }
     let readings = row.readings;
     let event = Event::Tick(at);
-    Called { event, readings }
+    Called {
+        event,
+        asks: false,
+        readings,
+    }
 }
 
 fn give_up(at: u8, count: usize) -> Called
@@ -224,6 +239,18 @@ fn come_back(at: u8, count: usize, missed: Magnitude) -> Called
     calls(Event::Return(at, size_of(missed)))
 }
 
+fn commit(at: u8, count: usize, ticket: Ticket) -> Called
+    ensures { λ r. ⌜ r ≡ commitCalled at count ticket ⌝ }
+{
+    if count != 2 {
+        return calls(Event::Bad);
+    }
+    if !is_ticket(ticket) {
+        return calls(Event::Bad);
+    }
+    calls(Event::Commit(at, number_of(ticket)))
+}
+
 // What only a line of rig calls for.
 fn power(at: u8, letter: u8, count: usize, line: &[u8]) -> Called
     ensures { λ r. ⌜ r ≡ powerCalled at letter count (now (line .entry)) ⌝ }
@@ -233,6 +260,9 @@ fn power(at: u8, letter: u8, count: usize, line: &[u8]) -> Called
     }
     if letter == 82 {
         return come_back(at, count, read_magnitude(field(line, 2)));
+    }
+    if letter == 67 {
+        return commit(at, count, ticket_in(field(line, 2)));
     }
     calls(Event::Bad)
 }
@@ -256,7 +286,78 @@ fn called_for(of_rig: bool, at: u8, m: u8, letter: u8, count: usize, line: &[u8]
     calls(Event::Bad)
 }
 
-// What a line calls for, in a group of so many boxes with m readings. A line of rig's may have singles for readings, and store a record or return a box.
+// Whether a replica takes an event.
+fn is_taken(event: Event) -> bool
+    ensures { λ r. ⌜ r ≡ isTaken event ⌝ }
+{
+    match event {
+        Event::Tick(_) => true,
+        Event::GiveUp(_) => true,
+        Event::Deliver(_, _) => true,
+        Event::Store(_) => false,
+        Event::Return(_, _) => false,
+        Event::Commit(_, _) => false,
+        Event::StoreAsked(_) => false,
+        Event::Bad => false,
+    }
+}
+
+// The same event asked, where a replica takes it.
+fn ask(called: Called) -> Called
+    ensures { λ r. ⌜ r ≡ askCalled called ⌝ }
+{
+    let event = called.event;
+    if !is_taken(event) {
+        return calls(Event::Bad);
+    }
+    let readings = called.readings;
+    Called {
+        event,
+        asks: true,
+        readings,
+    }
+}
+
+fn store_asked(at: u8, count: usize) -> Called
+    ensures { λ r. ⌜ r ≡ storeAskedCalled at count ⌝ }
+{
+    if count == 1 {
+        return calls(Event::StoreAsked(at));
+    }
+    calls(Event::Bad)
+}
+
+// What a line of rig calls for whose first field has these two letters.
+fn two(at: u8, m: u8, first: u8, second: u8, count: usize, line: &[u8]) -> Called
+    ensures { λ r. ⌜ r ≡ twoCalled at m first second count (now (line .entry)) ⌝ }
+{
+    if first == 65 {
+        return ask(called_for(true, at, m, second, count, line));
+    }
+    if first != 83 {
+        return calls(Event::Bad);
+    }
+    if second != 65 {
+        return calls(Event::Bad);
+    }
+    store_asked(at, count)
+}
+
+// What a line with this first field and so many spaces calls for.
+fn word_called(of_rig: bool, at: u8, m: u8, word: &[u8], count: usize, line: &[u8]) -> Called
+    ensures { λ r. ⌜ r ≡ wordCalled «of_rig» at m (now (word .entry)) count (now (line .entry)) ⌝ }
+{
+    if !of_rig {
+        return called_for(false, at, m, letter(word), count, line);
+    }
+    if word.len() == 2 {
+        return two(at, m, word[0], word[1], count, line);
+    }
+    called_for(true, at, m, letter(word), count, line)
+}
+
+// What a line calls for, in a group of so many boxes with m readings. A line of rig's may have singles for readings, store a record, return a box, ask an
+// event or commit a ticket.
 pub fn call_in(of_rig: bool, boxes: u8, m: u8, line: &[u8]) -> Called
     ensures { λ r. ⌜ r ≡ called «of_rig» boxes m (now (line .entry)) ⌝ }
 {
@@ -264,12 +365,5 @@ pub fn call_in(of_rig: bool, boxes: u8, m: u8, line: &[u8]) -> Called
     if at == 0 {
         return calls(Event::Bad);
     }
-    called_for(
-        of_rig,
-        at,
-        m,
-        letter(field(line, 0)),
-        count_spaces(line),
-        line,
-    )
+    word_called(of_rig, at, m, field(line, 0), count_spaces(line), line)
 }

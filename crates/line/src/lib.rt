@@ -3,3 +3,4 @@ pub mod events;
 pub mod fields;
 pub mod frames;
 mod singles;
+pub mod ticket;

@@ -24,13 +24,13 @@ abbrev halfway : ℕ → Option ℕ → ℕ
 halfway x none = x
 halfway x (some y) = (x + y) / 2
 
-abbrev law : Law ℕ (Option ℕ) ℕ
+abbrev pub law : Law ℕ (Option ℕ) ℕ
 law = record { update = halfway; command = halfway; start = 0; none = none; blank = 0 }
 
 abbrev group : Group
 group = record { size = 3; toDecide = majority 3; toPropose = majority 3; coordinator = coordinator 3 }
 
-record Replica : Type 0 where
+pub record Replica : Type 0 where
   own : ℕ
   held : Held ℕ (Option ℕ)
 
@@ -72,7 +72,7 @@ abbrev commandBytes : Option (Command ℕ) → List ℕ
 commandBytes none = []
 commandBytes (some c) = c .period ∷ c .values ∷ []
 
-abbrev outcomeOf : Replica → Input (Option ℕ) (List ℕ) → Outcome ℕ (Option ℕ) ℕ
+abbrev pub outcomeOf : Replica → Input (Option ℕ) (List ℕ) → Outcome ℕ (Option ℕ) ℕ
 outcomeOf c (Tick y) = tick law group (c .own) (c .held) false y
 outcomeOf c (Arrival b) = arrive law group (c .own) (c .held) (read b)
 outcomeOf c GiveUp = giveUp law group (c .own) (c .held)
@@ -85,7 +85,7 @@ resultOf own o = record {
   command = commandBytes (o .command);
 }
 
-abbrev system : System ℕ (Option ℕ) ℕ
+abbrev pub system : System ℕ (Option ℕ) ℕ
 system = record {
   Box = Replica;
   Handed = Option ℕ;
@@ -101,7 +101,7 @@ system = record {
 }
 
 -- a record is the replica itself
-abbrev storage : Storage system
+abbrev pub storage : Storage system
 storage = record { Record = Replica; recorded = λ c. c; back = λ c k. missed system none tt k c }
 
 -- ---- what lists come to

@@ -19,7 +19,7 @@ use Rattle.line.specs.Fields.{spaces, field}
 use Rattle.text.specs.Numbers.{numberOf, valueIn, isWhole}
 use Rattle.text.specs.Lines.{upTo, after}
 use Rattle.printed.specs.Values.{hasComma, isList, howMany, valueAt}
-use Rattle.printed.specs.Lines.{isNone, isUpTo, isRefusalNumber, isRefusal, unstarred, headOk, countersOk, tailOk, isStep, commandsIn}
+use Rattle.printed.specs.Lines.{isNone, isRefusalNumber, isRefusal, unstarred, headOk, countersOk, isFrame, tailOk, tenOk, isStep, commandsIn}
 
 -- ---- numbers with commas between them
 
@@ -138,13 +138,13 @@ nothing-starred bytes h = pick-false _ _ _ (rw (getD-beyond bytes (length bytes 
 
 -- the command of a step's line is none, or a list
 pub step-command : (line : List ℕ) → isStep line ≡ true → (isNone (field 9 line) || isList 4 (unstarred (field 9 line))) ≡ true
-unfolding isStep tailOk
+unfolding isStep tenOk tailOk
 step-command line h =
     let a = both (eqb (spaces line) 9) _ h in
     let b = both (headOk line) _ (a .1) in
     let c = both (countersOk line) _ (b .1) in
     let d = both (isList 6 (field 7 line)) _ (c .1) in
-    both (isNone (field 8 line) || isUpTo 500 (field 8 line)) _ (d .1) .1
+    both (isFrame false (field 8 line)) _ (d .1) .1
 
 -- a command has at most 4 values
 pub commands-most : (line : List ℕ) → commandsIn line ≤ 4

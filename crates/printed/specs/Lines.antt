@@ -10,6 +10,7 @@ use Rattle.lists.specs.Choice.{pick}
 use Rattle.lists.specs.Places.{filled}
 use Rattle.text.specs.Numbers.{magnitude, sizeIn, isSize}
 use Rattle.line.specs.Fields.{spaces, field}
+use Rattle.line.specs.Tickets.{ticketOf, isTicket}
 use Rattle.pages.specs.declared.entries.Entry.{Entry}
 use Rattle.pages.specs.Entries.{blank}
 use Rattle.pages.specs.Reading.{same}
@@ -42,9 +43,9 @@ isOk bytes = same bytes (111 ∷ 107 ∷ [])
 unfoldable pub isIgnored : List ℕ → Bool
 isIgnored bytes = same bytes (105 ∷ 103 ∷ 110 ∷ 111 ∷ 114 ∷ 101 ∷ 100 ∷ [])
 
--- the number of a refusal: a replica refuses by 1 to 12, and a box that comes back by 16
+-- the number of a refusal: a replica refuses by 1 to 12, a box that comes back by 16, and a commit by 17
 unfoldable pub isRefusalNumber : List ℕ → Bool
-isRefusalNumber bytes = isUpTo 12 bytes || same bytes (49 ∷ 54 ∷ [])
+isRefusalNumber bytes = isUpTo 12 bytes || (same bytes (49 ∷ 54 ∷ []) || same bytes (49 ∷ 55 ∷ []))
 
 -- "`r` and the number, as `r9`"
 unfoldable pub isRefusal : List ℕ → Bool
@@ -76,15 +77,22 @@ headOk line =
 unfoldable pub countersOk : List ℕ → Bool
 countersOk line = isCounter (field 3 line) && (isCounter (field 4 line) && (isCounter (field 5 line) && isCounter (field 6 line)))
 
--- "state, line number if a frame was sent, command"
-unfoldable pub tailOk : List ℕ → Bool
-tailOk line =
-    isList 6 (field 7 line)
-    && ((isNone (field 8 line) || isLine (field 8 line)) && (isNone (field 9 line) || isList 4 (unstarred (field 9 line))))
+-- "line number if a frame was sent"; an ask has "`?` where one would be sent", which is 63
+unfoldable pub isFrame : (asks : Bool) → List ℕ → Bool
+isFrame asks bytes = isNone bytes || pick asks (same bytes (63 ∷ [])) (isLine bytes)
 
--- ten fields, each in its form and range
+-- state, frame and command
+unfoldable pub tailOk : (asks : Bool) → List ℕ → Bool
+tailOk asks line =
+    isList 6 (field 7 line) && (isFrame asks (field 8 line) && (isNone (field 9 line) || isList 4 (unstarred (field 9 line))))
+
+-- the first ten fields, each in its form and range
+unfoldable pub tenOk : (asks : Bool) → List ℕ → Bool
+tenOk asks line = headOk line && (countersOk line && tailOk asks line)
+
+-- ten fields
 unfoldable pub isStep : List ℕ → Bool
-isStep line = eqb (spaces line) 9 && (headOk line && (countersOk line && tailOk line))
+isStep line = eqb (spaces line) 9 && tenOk false line
 
 -- how many values its command has, 0 where there is none
 unfoldable pub commandsIn : List ℕ → ℕ
@@ -102,10 +110,14 @@ entryIn line =
 
 -- ---- any line
 
--- "The header, `N bad`, and `bad` or `rN` alone"
+-- an ask's line: eleven fields, of which the last is the ticket
+unfoldable pub isAsk : List ℕ → Bool
+isAsk line = eqb (spaces line) 10 && (tenOk true line && isTicket (ticketOf (field 10 line)))
+
+-- "The header, `N bad`, and `bad` or `rN` alone", and an ask's line: no step was made
 unfoldable pub isOther : List ℕ → Bool
 isOther line =
-    isHeader line || (isBad line || (isRefusal line || (eqb (spaces line) 1 && (isLine (field 0 line) && isBad (field 1 line)))))
+    isHeader line || (isBad line || (isRefusal line || (isAsk line || (eqb (spaces line) 1 && (isLine (field 0 line) && isBad (field 1 line))))))
 
 -- "an entry of each line whose answer is `ok`"
 abbrev pub stepLine : List ℕ → Printed

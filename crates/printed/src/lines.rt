@@ -5,7 +5,7 @@ ghost use Prim.Native.Nat.{_≤_};
 ghost use lib.Dec.{eqb};
 ghost use lib.IntN.{pos};
 ghost use lib.ListN.{take};
-ghost use Rattle.printed.specs.Lines.{isCounter, isUpTo, isNone, isOk, isIgnored, isRefusalNumber, isRefusal, isBad, isHeader, unstarred as Lines·unstarred, headOk, countersOk, tailOk, isStep, isOther, stepLine, noStep, printedAs};
+ghost use Rattle.printed.specs.Lines.{isCounter, isUpTo, isNone, isOk, isIgnored, isRefusalNumber, isRefusal, isBad, isHeader, unstarred as Lines·unstarred, headOk, countersOk, isFrame, tailOk, tenOk, isStep, isAsk, isOther, stepLine, noStep, printedAs};
 ghost use Rattle.line.specs.Fields as Fields;
 ghost use Rattle.lists.specs.Choice.{pick};
 ghost use Rattle.lists.specs.Places.{filled};
@@ -15,6 +15,8 @@ use crate::values::no_values;
 use crate::values::values_in;
 use line::fields::count_spaces;
 use line::fields::field;
+use line::ticket::is_ticket;
+use line::ticket::ticket_in;
 use pages::entries::Entry;
 use pages::entries::blank;
 use pages::reading::same;
@@ -77,7 +79,10 @@ fn is_refusal_number(bytes: &[u8]) -> bool
     if is_up_to(12, bytes) {
         return true;
     }
-    same(bytes, b"16")
+    if same(bytes, b"16") {
+        return true;
+    }
+    same(bytes, b"17")
 }
 
 // `r` and a number.
@@ -160,12 +165,15 @@ fn counters_ok(line: &[u8]) -> bool
     is_counter(field(line, 6))
 }
 
-// Whether a field is nothing, or a line's number.
-fn is_frame(bytes: &[u8]) -> bool
-    ensures { λ r. ⌜ r ≡ (isNone (now (bytes .entry)) || isUpTo 500 (now (bytes .entry))) ⌝ }
+// Whether a field is nothing, or a line's number; of an ask it is a question mark.
+fn is_frame(asks: bool, bytes: &[u8]) -> bool
+    ensures { λ r. ⌜ r ≡ isFrame asks (now (bytes .entry)) ⌝ }
 {
     if is_none(bytes) {
         return true;
+    }
+    if asks {
+        return same(bytes, b"?");
     }
     is_up_to(500, bytes)
 }
@@ -190,16 +198,29 @@ fn is_command(bytes: &[u8]) -> bool
 }
 
 // State, frame and command.
-fn tail_ok(line: &[u8]) -> bool
-    ensures { λ r. ⌜ r ≡ tailOk (now (line .entry)) ⌝ }
+fn tail_ok(asks: bool, line: &[u8]) -> bool
+    ensures { λ r. ⌜ r ≡ tailOk asks (now (line .entry)) ⌝ }
 {
     if !is_list(6, field(line, 7)) {
         return false;
     }
-    if !is_frame(field(line, 8)) {
+    if !is_frame(asks, field(line, 8)) {
         return false;
     }
     is_command(field(line, 9))
+}
+
+// The first ten fields.
+fn ten_ok(asks: bool, line: &[u8]) -> bool
+    ensures { λ r. ⌜ r ≡ tenOk asks (now (line .entry)) ⌝ }
+{
+    if !head_ok(line) {
+        return false;
+    }
+    if !counters_ok(line) {
+        return false;
+    }
+    tail_ok(asks, line)
 }
 
 fn is_step(line: &[u8]) -> bool
@@ -208,13 +229,20 @@ fn is_step(line: &[u8]) -> bool
     if count_spaces(line) != 9 {
         return false;
     }
-    if !head_ok(line) {
+    ten_ok(false, line)
+}
+
+// Ten fields and a ticket.
+fn is_ask(line: &[u8]) -> bool
+    ensures { λ r. ⌜ r ≡ isAsk (now (line .entry)) ⌝ }
+{
+    if count_spaces(line) != 10 {
         return false;
     }
-    if !counters_ok(line) {
+    if !ten_ok(true, line) {
         return false;
     }
-    tail_ok(line)
+    is_ticket(ticket_in(field(line, 10)))
 }
 
 // A line's number and `bad`.
@@ -240,6 +268,9 @@ fn is_other(line: &[u8]) -> bool
         return true;
     }
     if is_refusal(line) {
+        return true;
+    }
+    if is_ask(line) {
         return true;
     }
     is_bad_line(line)

@@ -92,7 +92,7 @@ fn recorded_held(n: usize, m: usize, held: Held) -> Held
 }
 
 // The number of the refusal of recording, or 0: 1 to 4 for the settings, then 5.
-fn refusal(settings: Settings, area: usize) -> u8
+pub fn refusal(settings: Settings, area: usize) -> u8
     ensures { λ r. ⌜ r ≡ recordRefusal settings area ⌝ }
 {
     let number = settings_refusal_of(settings);

@@ -57,7 +57,7 @@ unfolding stepAt
 step-numbered b x a =
     pick-ok (λ (o : Outcomes). Listed (o .answer)) _ _ _ (λ _. outcome-quiet (replicaIn b) x a .numbered) (λ _. (lit≤ tt, lit≤ tt))
 
-written-there : (bytes : List ℕ) (count : ℕ) (area area′ : List ℕ) → count ≡ length bytes → area′ ≡ over bytes area → Group.Written bytes count area area′
+pub written-there : (bytes : List ℕ) (count : ℕ) (area area′ : List ℕ) → count ≡ length bytes → area′ ≡ over bytes area → Group.Written bytes count area area′
 written-there bytes count area area′ q z = record {
   number = q;
   first = ap (λ k. take k area′) q ∙ ap (take (length bytes)) z ∙ over-first bytes area;

@@ -1,19 +1,19 @@
 -- How long the lines are that are printed. Assumes nothing.
 use mathlib.Core.Path.{_≡_}
 use mathlib.Core.List.{List, [], _∷_, _++_}
-use Prim.Native.Nat.{ℕ, zero, suc, _+_, _≤_}
+use Prim.Native.Nat.{ℕ, zero, suc, _+_, _/_, _%_, _≤_}
 use native.Mathlib.Omega.{arith}
-use lib.Dec.{eqb}
+use lib.Dec.{eqb, ltb}
 use lib.IntN.{ℤ, pos}
 use lib.ListN.{length, take, length-append}
 use Rattle.lists.proofs.Places.{filled-length}
 use Rattle.scram.specs.Answers.{Answered, Done, Ignored, Refused}
 use Rattle.frame.specs.Command.{commandValues}
 use Rattle.replica.specs.declared.Replica.{Replica}
-use Rattle.text.specs.Printing.{decimal, listed}
+use Rattle.text.specs.Printing.{digitsBefore, decimal, listed}
 use Rattle.text.proofs.PrintingLengths.{pick-length, decimal-length, listed-length}
 use Rattle.script.specs.Play.{lineRoom, stateRoom}
-use Rattle.script.specs.Printing.{refusalLine, badLine, answerWord, headWords, counterWords, stateWord, sentWord, commandWord, stepLine}
+use Rattle.script.specs.Printing.{refusalLine, badLine, answerWord, headWords, counterWords, stateWord, firstWords, sentWord, commandWord, stepLine, askedWord, ticketWord, askLine}
 
 take-length-le : (n : ℕ) (values : List ℤ) → length (take n values) ≤ length values
 take-length-le zero values = omega arith
@@ -81,8 +81,36 @@ pub refusal-length : (number : ℕ) → length (refusalLine number) ≤ lineRoom
 unfolding refusalLine
 refusal-length number = omega (arith, length-append (decimal number) (10 ∷ []), decimal-length number)
 
-five : (a b c d e : List ℕ) → length (a ++ (b ++ (c ++ (d ++ (e ++ (10 ∷ [])))))) ≡ length a + length b + length c + length d + length e + 1
-five a b c d e = simp length-append (omega arith)
+asked-length : (size : ℕ) → length (askedWord size) ≤ 2
+unfolding askedWord
+asked-length size = let h = pick-length (eqb size 0) (45 ∷ []) (63 ∷ []) 1 (omega arith) (omega arith) in omega arith
+
+digits-length : (k n : ℕ) (tail : List ℕ) → length (digitsBefore k n tail) ≤ k + length tail
+unfolding digitsBefore
+digits-length zero n tail = omega arith
+digits-length (suc k) n tail =
+    pick-length (ltb n 10) _ _ _ (omega arith) (let h = digits-length k (n / 10) ((48 + n % 10) ∷ tail) in omega arith)
+
+ticket-length : (ticket : ℕ) → length (ticketWord ticket) ≤ 21
+unfolding ticketWord
+ticket-length ticket = omega (arith, digits-length 20 ticket [])
+
+first-length : (number who : ℕ) (answer : Answered) (r : Replica) → length (stateWord r) ≤ stateRoom → length (firstWords number who answer r) ≤ 150
+unfolding firstWords
+first-length number who answer r e =
+    omega (
+      arith,
+      length-append (headWords number who answer) (counterWords r ++ stateWord r),
+      length-append (counterWords r) (stateWord r),
+      head-length number who answer,
+      counters-length r,
+    )
+
+three : (a b c : List ℕ) → length (a ++ (b ++ (c ++ (10 ∷ [])))) ≡ length a + length b + length c + 1
+three a b c = simp length-append (omega arith)
+
+four : (a b c d : List ℕ) → length (a ++ (b ++ (c ++ (d ++ (10 ∷ []))))) ≡ length a + length b + length c + length d + 1
+four a b c d = simp length-append (omega arith)
 
 pub line-length : (number who : ℕ) (answer : Answered) (r : Replica) (frame size : ℕ) (command : List ℕ) → length (stateWord r) ≤ stateRoom
     → length (stepLine number who answer r frame size command) ≤ lineRoom
@@ -90,10 +118,21 @@ unfolding stepLine
 line-length number who answer r frame size command e =
     omega (
       arith,
-      five (headWords number who answer) (counterWords r) (stateWord r) (sentWord number frame) (commandWord (r .settings .law .p) size command),
-      head-length number who answer,
-      counters-length r,
-      e,
+      three (firstWords number who answer r) (sentWord number frame) (commandWord (r .settings .law .p) size command),
+      first-length number who answer r e,
       sent-length number frame,
       command-length (r .settings .law .p) size command,
+    )
+
+pub ask-length : (number who : ℕ) (answer : Answered) (r : Replica) (frame size : ℕ) (command : List ℕ) (ticket : ℕ) → length (stateWord r) ≤ stateRoom
+    → length (askLine number who answer r frame size command ticket) ≤ lineRoom
+unfolding askLine
+ask-length number who answer r frame size command ticket e =
+    omega (
+      arith,
+      four (firstWords number who answer r) (askedWord frame) (commandWord (r .settings .law .p) size command) (ticketWord ticket),
+      first-length number who answer r e,
+      asked-length frame,
+      command-length (r .settings .law .p) size command,
+      ticket-length ticket,
     )

@@ -11,7 +11,7 @@ use Rattle.line.specs.declared.events.Called.{Called}
 use Rattle.line.specs.Events.{readingsOf, called}
 use Rattle.transmitters.specs.declared.Reading.{Reading}
 use Rattle.text.proofs.PrintingLaws.{put-within}
-use Rattle.script.specs.declared.play.Kept.{Kept}
+use Rattle.script.specs.declared.boxes.Kept.{Kept}
 use Rattle.script.specs.declared.play.PlayedLine.{PlayedLine}
 use Rattle.script.specs.Play.{most, tableLength, lineRoom, placeOf, afterEvent, Leaves}
 use Rattle.text.specs.Lines.{firstLine, afterLine, linesOf}
@@ -33,12 +33,12 @@ played-none ofRig boxes m number l = refl
 module _ (held : List Kept) (table lengths table′ lengths′ output output′ : List ℕ) (number end place : ℕ) (c : Called) (before : Kept)
     (y : List Reading) (one : PlayedLine) where
   after-one : place ≡ placeOf (c .event) → before ≡ keptAt held place → y ≡ readingsOf (c .readings) → end + lineRoom ≤ length output
-      → Leaves (afterEvent before (c .event) y number table lengths) end one table′ lengths′ output output′
+      → Leaves (afterEvent before (c .asks) (c .event) y number table lengths) end one table′ lengths′ output output′
       → afterCall (left held table lengths (take end output)) number c ≡ left (set held place (one .kept)) table′ lengths′ (take (one .end) output′)
   unfolding afterCall
   after-one p e q room l =
       let at : before ≡ keptAt held (placeOf (c .event)) = e ∙ ap (keptAt held) p in
-      let k = subst (λ a. Leaves a end one table′ lengths′ output output′) (λ i. afterEvent (at i) (c .event) (q i) number table lengths) l in
+      let k = subst (λ a. Leaves a end one table′ lengths′ output output′) (λ i. afterEvent (at i) (c .asks) (c .event) (q i) number table lengths) l in
       let w = put-within (omega (arith, k .short)) (k .printed) in
       let kept = ap₂ (λ (i : ℕ) (b : Kept). set held i b) (sym p) (sym (k .kept)) in
       λ i. record { kept = kept i; table = sym (k .table) i; lengths = sym (k .lengths) i; printed = sym (w .text) i }
@@ -68,7 +68,7 @@ module _ (ofRig : Bool) (boxes m start : ℕ) (text output₀ : List ℕ) (enoug
       → c ≡ called ofRig boxes m (take (stop - at) (drop at text))
       → place ≡ placeOf (c .event) → place ≤ 9 → before ≡ getD held place other → y ≡ readingsOf (c .readings)
       → length table′ ≡ length table → length lengths′ ≡ length lengths → length output′ ≡ length output
-      → Leaves (afterEvent before (c .event) y (number + 1) table lengths) end one table′ lengths′ output output′
+      → Leaves (afterEvent before (c .asks) (c .event) y (number + 1) table lengths) end one table′ lengths′ output output′
       → Sofar ofRig boxes m start text output₀ whole output′ (set held place (one .kept)) table′ lengths′ (one .end) (stop + 1) (number + 1)
   one-more {table′} {lengths′} {output′} {one} stop place c before other y h l first following ec ep low eb ey et el eo k =
       let size = s .same in

@@ -1,11 +1,11 @@
 -- The lines that are printed, each with its line feed, as bytes: 10 is a line feed, 32 a space, 45 a minus, 98 97 100 `bad`, 111 107 `ok`,
--- 105 103 110 111 114 101 100 `ignored` and 114 `r`.
+-- 105 103 110 111 114 101 100 `ignored`, 114 `r` and 63 a question mark.
 use Prim.Native.Nat.{ℕ}
 use mathlib.Core.List.{List, [], _∷_, _++_}
 use lib.ListN.{take}
 use lib.Dec.{eqb}
 use Rattle.lists.specs.Choice.{pick}
-use Rattle.text.specs.Printing.{decimal, listed}
+use Rattle.text.specs.Printing.{digitsBefore, decimal, listed}
 use Rattle.scram.specs.Answers.{Answered, Done, Ignored, Refused}
 use Rattle.frame.specs.Command.{commandValues}
 use Rattle.replica.specs.declared.Replica.{Replica}
@@ -55,12 +55,28 @@ sentWord number size = 32 ∷ pick (eqb size 0) (45 ∷ []) (decimal number)
 unfoldable pub commandWord : ℕ → ℕ → List ℕ → List ℕ
 commandWord p size command = 32 ∷ pick (eqb size 0) (45 ∷ []) (listed (take p (commandValues command)))
 
+-- the fields up to the state
+unfoldable pub firstWords : ℕ → ℕ → Answered → Replica → List ℕ
+firstWords number who answer r = headWords number who answer ++ (counterWords r ++ stateWord r)
+
 -- the line of a step: its number, the box, the answer, the replica that comes back, the length of the frame sent, that of the command, and
 -- the command area then
 unfoldable pub stepLine : ℕ → ℕ → Answered → Replica → ℕ → ℕ → List ℕ → List ℕ
 stepLine number who answer r frame size command =
-    headWords number who answer
-    ++ (counterWords r
-    ++ (stateWord r
-    ++ (sentWord number frame
-    ++ (commandWord (r .settings .law .p) size command ++ (10 ∷ [])))))
+    firstWords number who answer r ++ (sentWord number frame ++ (commandWord (r .settings .law .p) size command ++ (10 ∷ [])))
+
+-- ---- asks
+
+-- "for the frame `?` where one would be sent", after a space
+unfoldable pub askedWord : ℕ → List ℕ
+askedWord size = 32 ∷ pick (eqb size 0) (45 ∷ []) (63 ∷ [])
+
+-- "then a space and the ticket": a number of 64 bits has at most twenty digits
+unfoldable pub ticketWord : ℕ → List ℕ
+ticketWord ticket = 32 ∷ digitsBefore 20 ticket []
+
+-- the line of an ask: its number, the box, the answer, the replica that is shown, the length of the frame that would be sent, that of the command, the
+-- command area then, and the ticket
+unfoldable pub askLine : ℕ → ℕ → Answered → Replica → ℕ → ℕ → List ℕ → ℕ → List ℕ
+askLine number who answer r frame size command ticket =
+    firstWords number who answer r ++ (askedWord frame ++ (commandWord (r .settings .law .p) size command ++ (ticketWord ticket ++ (10 ∷ []))))

@@ -18,9 +18,10 @@ use Rattle.opening.specs.declared.Opening.{Opening}
 use Rattle.opening.specs.declared.Opening.the-variants.{Bad, Refused, Ready}
 use Rattle.opening.specs.Opening.{sizesIn, openedBy}
 use Rattle.setup.specs.Bench.{bench}
-use Rattle.script.specs.declared.play.Kept.{Kept}
+use Rattle.script.specs.declared.boxes.Kept.{Kept}
 use Rattle.script.specs.Printing.{headerLine, badAlone, refusalLine}
-use Rattle.script.specs.Play.{most, tableLength, lineRoom, unstored, placeOf, afterEvent, freshBoxes}
+use Rattle.script.specs.Boxes.{unstored}
+use Rattle.script.specs.Play.{most, tableLength, lineRoom, placeOf, afterEvent, freshBoxes}
 
 -- ---- what they leave
 
@@ -46,7 +47,7 @@ keptAt kept place = getD kept place (unstored (made blankSettings))
 -- one line more, of this number, that calls for c: what the line leaves is kept of its box then, and what the line prints is printed after
 unfoldable pub afterCall : Left → ℕ → Called → Left
 afterCall l number c =
-    let a = afterEvent (keptAt (l .kept) (placeOf (c .event))) (c .event) (readingsOf (c .readings)) number (l .table) (l .lengths) in
+    let a = afterEvent (keptAt (l .kept) (placeOf (c .event))) (c .asks) (c .event) (readingsOf (c .readings)) number (l .table) (l .lengths) in
     record {
       kept = set (l .kept) (placeOf (c .event)) (a .kept);
       table = a .table;

@@ -5,11 +5,11 @@ ghost use lib.ListN.{length, take, drop};
 ghost use Rattle.text.specs.Lines.{firstLine, linesOf};
 ghost use Rattle.script.specs.Play.{most, tableLength, lineRoom};
 ghost use Rattle.script.specs.Script.{left, played, leftBy, groupOutput, openedOutput, benchOutput, rigOutput, outputRoom, Prints};
-use crate::play::Kept;
+use crate::boxes::Kept;
+use crate::boxes::fresh;
 use crate::play::LENGTHS;
 use crate::play::MOST;
 use crate::play::TABLE;
-use crate::play::fresh;
 use crate::play::place_of;
 use crate::play::play;
 use crate::printing::put_bad;
@@ -63,6 +63,7 @@ fn play_lines(
         let place = place_of(event);
         let one = play(
             held[place],
+            called.asks,
             event,
             readings,
             number,

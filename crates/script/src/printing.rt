@@ -5,9 +5,10 @@ ghost use lib.ListN.{length};
 ghost use Rattle.text.specs.Printing.{Puts, decimal};
 ghost use Rattle.script.specs.Play.{lineRoom, stateRoom};
 ghost use Rattle.scram.specs.Answers.{answered};
-ghost use Rattle.script.specs.Printing.{headerLine, badAlone, refusalLine, badLine, answerWord, headWords, counterWords, stateWord, sentWord, commandWord, stepLine};
+ghost use Rattle.script.specs.Printing.{headerLine, badAlone, refusalLine, badLine, answerWord, headWords, counterWords, stateWord, firstWords, sentWord, commandWord, stepLine, askedWord, askLine};
+use crate::boxes::Outgoing;
+use crate::decimals::put_ticket;
 use replica::Replica;
-use replica::Stepped;
 use scram::Answer;
 use text::printing::at_most;
 use text::printing::put_byte;
@@ -101,6 +102,22 @@ fn put_state(text: &mut [u8], at: usize, replica: Replica) -> usize
     put_list(text, at, &state[0..n])
 }
 
+// The fields up to the state.
+fn put_first(
+    text: &mut [u8],
+    at: usize,
+    number: u32,
+    who: u8,
+    answer: Answer,
+    replica: Replica,
+) -> usize
+    ensures { λ r. ⌜ Puts (now (text .entry)) at (firstWords number who (answered answer) replica) r (now (text .exit)) × (length (stateWord replica) ≤ stateRoom) ⌝ }
+{
+    let at = put_head(text, at, number, who, answer);
+    let at = put_counters(text, at, replica);
+    put_state(text, at, replica)
+}
+
 // The line's own number where it sent a frame.
 fn put_sent(text: &mut [u8], at: usize, number: u32, size: usize) -> usize
     ensures { λ r. ⌜ Puts (now (text .entry)) at (sentWord number size) r (now (text .exit)) ⌝ }
@@ -124,25 +141,57 @@ fn put_command(text: &mut [u8], at: usize, p: usize, size: usize, command: &[u8]
     put_list(text, at, &values[0..n])
 }
 
-// The line of a step at a box: what the step gave, with its command area.
+// The line of a step at a box: its answer, what it gave, and the replica that comes back.
 pub(crate) fn step_line(
     text: &mut [u8],
     at: usize,
     number: u32,
     who: u8,
-    s: Stepped,
-    command: &[u8],
+    answer: Answer,
+    gave: Outgoing,
+    replica: Replica,
 ) -> usize
-    ensures { λ r. ⌜ Puts (now (text .entry)) at (stepLine number who (answered (s .answer)) (s .replica) (s .frame) (s .command) (now (command .entry))) r (now (text .exit))
-        × (length (stepLine number who (answered (s .answer)) (s .replica) (s .frame) (s .command) (now (command .entry))) ≤ lineRoom) ⌝ }
+    ensures { λ r. ⌜ Puts (now (text .entry)) at (stepLine number who (answered answer) replica (gave .sent) (gave .issued) (gave .command)) r (now (text .exit))
+        × (length (stepLine number who (answered answer) replica (gave .sent) (gave .issued) (gave .command)) ≤ lineRoom) ⌝ }
 {
-    let replica = s.replica;
-    let answer = s.answer;
-    let at = put_head(text, at, number, who, answer);
-    let at = put_counters(text, at, replica);
-    let at = put_state(text, at, replica);
-    let at = put_sent(text, at, number, s.frame);
+    let at = put_first(text, at, number, who, answer, replica);
+    let at = put_sent(text, at, number, gave.sent);
     let p = replica.settings.law.p;
-    let at = put_command(text, at, p, s.command, command);
+    let command = gave.command;
+    let at = put_command(text, at, p, gave.issued, &command);
+    put_byte(text, at, 10)
+}
+
+// A question mark where an ask would send a frame.
+fn put_asked(text: &mut [u8], at: usize, size: usize) -> usize
+    ensures { λ r. ⌜ Puts (now (text .entry)) at (askedWord size) r (now (text .exit)) ⌝ }
+{
+    let at = put_byte(text, at, 32);
+    if size == 0 {
+        return put_byte(text, at, 45);
+    }
+    put_byte(text, at, 63)
+}
+
+// The line of an ask at a box: its answer, what it gave, its ticket, and the replica that is shown.
+pub(crate) fn ask_line(
+    text: &mut [u8],
+    at: usize,
+    number: u32,
+    who: u8,
+    answer: Answer,
+    gave: Outgoing,
+    ticket: u64,
+    shown: Replica,
+) -> usize
+    ensures { λ r. ⌜ Puts (now (text .entry)) at (askLine number who (answered answer) shown (gave .sent) (gave .issued) (gave .command) ticket) r (now (text .exit))
+        × (length (askLine number who (answered answer) shown (gave .sent) (gave .issued) (gave .command) ticket) ≤ lineRoom) ⌝ }
+{
+    let at = put_first(text, at, number, who, answer, shown);
+    let at = put_asked(text, at, gave.sent);
+    let p = shown.settings.law.p;
+    let command = gave.command;
+    let at = put_command(text, at, p, gave.issued, &command);
+    let at = put_ticket(text, at, ticket);
     put_byte(text, at, 10)
 }

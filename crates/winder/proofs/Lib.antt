@@ -1,4 +1,5 @@
 pub mod Refused
 pub mod Recordings
 pub mod Stepped
+pub mod TicketLaws
 pub mod Made

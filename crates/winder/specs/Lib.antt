@@ -5,3 +5,4 @@ pub mod LawAreas
 pub mod FrameAreas
 pub mod PageAreas
 pub mod ReplicaAreas
+pub mod TicketAreas

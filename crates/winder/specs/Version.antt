@@ -7,7 +7,7 @@ major = 1
 
 -- a further call makes a new minor version
 abbrev pub minor : ℕ
-minor = 3
+minor = 4
 
 -- both as one number
 abbrev pub version : ℕ

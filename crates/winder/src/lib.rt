@@ -8,4 +8,5 @@ pub mod page_calls;
 pub mod reading_calls;
 pub mod record_calls;
 pub mod replica_calls;
+pub mod ticket_calls;
 pub mod version;

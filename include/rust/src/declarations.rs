@@ -141,4 +141,90 @@ extern "C" {
         replica: *mut u8,
         replica_length: usize,
     ) -> u32;
+
+    pub fn winder_tickets(
+        replica: *const u8,
+        replica_length: usize,
+        area: *mut u8,
+        area_length: usize,
+    ) -> u32;
+
+    pub fn winder_ask_tick(
+        replica: *mut u8,
+        replica_length: usize,
+        kinds: &[u8; 4],
+        bits: &[u32; 4],
+        area: *mut u8,
+        area_length: usize,
+        frame: *mut u8,
+        frame_length: usize,
+        command: *mut u8,
+        command_length: usize,
+        lengths: &mut [usize; 2],
+        ticket: &mut [u64; 1],
+    ) -> u32;
+
+    pub fn winder_ask_give_up(
+        replica: *mut u8,
+        replica_length: usize,
+        area: *mut u8,
+        area_length: usize,
+        frame: *mut u8,
+        frame_length: usize,
+        command: *mut u8,
+        command_length: usize,
+        lengths: &mut [usize; 2],
+        ticket: &mut [u64; 1],
+    ) -> u32;
+
+    pub fn winder_ask_arrive(
+        replica: *mut u8,
+        replica_length: usize,
+        bytes: *const u8,
+        bytes_length: usize,
+        area: *mut u8,
+        area_length: usize,
+        frame: *mut u8,
+        frame_length: usize,
+        command: *mut u8,
+        command_length: usize,
+        lengths: &mut [usize; 2],
+        ticket: &mut [u64; 1],
+    ) -> u32;
+
+    pub fn winder_commit(replica: *mut u8, replica_length: usize, ticket: u64) -> u32;
+
+    pub fn winder_ticketed_tick(
+        replica: *mut u8,
+        replica_length: usize,
+        kinds: &[u8; 4],
+        bits: &[u32; 4],
+        frame: *mut u8,
+        frame_length: usize,
+        command: *mut u8,
+        command_length: usize,
+        lengths: &mut [usize; 2],
+    ) -> u32;
+
+    pub fn winder_ticketed_give_up(
+        replica: *mut u8,
+        replica_length: usize,
+        frame: *mut u8,
+        frame_length: usize,
+        command: *mut u8,
+        command_length: usize,
+        lengths: &mut [usize; 2],
+    ) -> u32;
+
+    pub fn winder_ticketed_arrive(
+        replica: *mut u8,
+        replica_length: usize,
+        bytes: *const u8,
+        bytes_length: usize,
+        frame: *mut u8,
+        frame_length: usize,
+        command: *mut u8,
+        command_length: usize,
+        lengths: &mut [usize; 2],
+    ) -> u32;
 }

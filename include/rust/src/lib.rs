@@ -6,13 +6,15 @@
 mod declarations;
 
 use declarations::{
-    winder_arrive, winder_command, winder_convert_single, winder_give_up, winder_make,
-    winder_read_command, winder_read_frame, winder_record, winder_return, winder_tick,
-    winder_update, winder_version, winder_write_frame, winder_write_page,
+    winder_arrive, winder_ask_arrive, winder_ask_give_up, winder_ask_tick, winder_command,
+    winder_commit, winder_convert_single, winder_give_up, winder_make, winder_read_command,
+    winder_read_frame, winder_record, winder_return, winder_tick, winder_ticketed_arrive,
+    winder_ticketed_give_up, winder_ticketed_tick, winder_tickets, winder_update, winder_version,
+    winder_write_frame, winder_write_page,
 };
 
 /// The version of these declarations: major version times 100, and minor version.
-pub const VERSION: u32 = 103;
+pub const VERSION: u32 = 104;
 
 /// The version of the archive.
 #[inline]
@@ -319,6 +321,153 @@ pub fn return_from(stored: &[u8], missed: u32, replica: &mut [u8]) -> u32 {
             missed,
             replica.as_mut_ptr(),
             replica.len(),
+        )
+    }
+}
+
+/// The length of a replica with tickets.
+pub const TICKETED: usize = 752;
+
+/// A replica with tickets, none given yet, of the record of one that was made or has returned: at the start of an area. Gives 0 or a
+/// refusal's number.
+#[inline]
+pub fn tickets(replica: &[u8], area: &mut [u8]) -> u32 {
+    unsafe {
+        winder_tickets(
+            replica.as_ptr(),
+            replica.len(),
+            area.as_mut_ptr(),
+            area.len(),
+        )
+    }
+}
+
+/// The areas that an ask is lent, the lengths that it writes to the frame area and the command area, and its ticket.
+#[derive(Debug)]
+pub struct LentToAsk<'a> {
+    /// For the record of the replica after the step.
+    pub area: &'a mut [u8],
+    pub frame: &'a mut [u8],
+    pub command: &'a mut [u8],
+    pub lengths: &'a mut [usize; 2],
+    pub ticket: &'a mut [u64; 1],
+}
+
+/// What a tick of a replica with tickets would give. Gives 0, `IGNORED` or a refusal's number, as the other asks do.
+#[inline]
+pub fn ask_tick(replica: &mut [u8], kinds: &[u8; 4], bits: &[u32; 4], lent: LentToAsk) -> u32 {
+    unsafe {
+        winder_ask_tick(
+            replica.as_mut_ptr(),
+            replica.len(),
+            kinds,
+            bits,
+            lent.area.as_mut_ptr(),
+            lent.area.len(),
+            lent.frame.as_mut_ptr(),
+            lent.frame.len(),
+            lent.command.as_mut_ptr(),
+            lent.command.len(),
+            lent.lengths,
+            lent.ticket,
+        )
+    }
+}
+
+/// What the view given up would give.
+#[inline]
+pub fn ask_give_up(replica: &mut [u8], lent: LentToAsk) -> u32 {
+    unsafe {
+        winder_ask_give_up(
+            replica.as_mut_ptr(),
+            replica.len(),
+            lent.area.as_mut_ptr(),
+            lent.area.len(),
+            lent.frame.as_mut_ptr(),
+            lent.frame.len(),
+            lent.command.as_mut_ptr(),
+            lent.command.len(),
+            lent.lengths,
+            lent.ticket,
+        )
+    }
+}
+
+/// What bytes that arrived as a frame would give.
+#[inline]
+pub fn ask_arrive(replica: &mut [u8], bytes: &[u8], lent: LentToAsk) -> u32 {
+    unsafe {
+        winder_ask_arrive(
+            replica.as_mut_ptr(),
+            replica.len(),
+            bytes.as_ptr(),
+            bytes.len(),
+            lent.area.as_mut_ptr(),
+            lent.area.len(),
+            lent.frame.as_mut_ptr(),
+            lent.frame.len(),
+            lent.command.as_mut_ptr(),
+            lent.command.len(),
+            lent.lengths,
+            lent.ticket,
+        )
+    }
+}
+
+/// The step of the ask that gave this ticket is made. Gives 0 or a refusal's number.
+#[inline]
+pub fn commit(replica: &mut [u8], ticket: u64) -> u32 {
+    unsafe { winder_commit(replica.as_mut_ptr(), replica.len(), ticket) }
+}
+
+/// A tick of a replica with tickets, without an ask. Gives 0, `IGNORED` or a refusal's number, as the two steps after it do.
+#[inline]
+pub fn ticketed_tick(replica: &mut [u8], kinds: &[u8; 4], bits: &[u32; 4], lent: Lent) -> u32 {
+    unsafe {
+        winder_ticketed_tick(
+            replica.as_mut_ptr(),
+            replica.len(),
+            kinds,
+            bits,
+            lent.frame.as_mut_ptr(),
+            lent.frame.len(),
+            lent.command.as_mut_ptr(),
+            lent.command.len(),
+            lent.lengths,
+        )
+    }
+}
+
+/// The view of a replica with tickets is given up.
+#[inline]
+pub fn ticketed_give_up(replica: &mut [u8], lent: Lent) -> u32 {
+    unsafe {
+        winder_ticketed_give_up(
+            replica.as_mut_ptr(),
+            replica.len(),
+            lent.frame.as_mut_ptr(),
+            lent.frame.len(),
+            lent.command.as_mut_ptr(),
+            lent.command.len(),
+            lent.lengths,
+        )
+    }
+}
+
+/// Bytes that arrived as a frame at a replica with tickets.
+#[inline]
+pub fn ticketed_arrive(replica: &mut [u8], bytes: &[u8], lent: Lent) -> u32 {
+    unsafe {
+        winder_ticketed_arrive(
+            replica.as_mut_ptr(),
+            replica.len(),
+            bytes.as_ptr(),
+            bytes.len(),
+            lent.frame.as_mut_ptr(),
+            lent.frame.len(),
+            lent.command.as_mut_ptr(),
+            lent.command.len(),
+            lent.lengths,
         )
     }
 }

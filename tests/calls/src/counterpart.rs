@@ -7,12 +7,14 @@ use second::page;
 use second::reading;
 use second::refusal::Refusal;
 use second::replica;
+use second::ticket_calls as tickets;
 
 use crate::areas::{of_frame, row, to_frame, Fields, Sizes};
 use crate::handed_readings::numbers_of;
 use crate::page_areas::{of_second, to_second, words_of, ENTRY_WORDS, PAGE_WORDS};
 use crate::page_calls::Writing;
 use crate::record_calls::{Areas, Asked};
+use crate::ticket_calls::{self, Event, Name};
 
 /// The answer's number; what is given goes to its area where nothing is
 /// refused.
@@ -123,5 +125,53 @@ pub fn on_record(asked: &Asked, areas: Areas) -> u32 {
         Asked::Arrive { bytes } => calls::arrive(record, bytes, lent, lengths),
         Asked::Record => calls::copy(record, area),
         Asked::Return { missed } => calls::return_to(record, *missed, area),
+    }
+}
+
+pub fn on_tickets(name: &Name, areas: ticket_calls::Areas) -> u32 {
+    match name {
+        Name::Tickets => tickets::tickets(areas.replica, areas.area),
+        Name::Ask(event) => ask(event, areas),
+        Name::Commit { ticket, .. } => tickets::commit(areas.replica, *ticket),
+        Name::Step(event) => step(event, areas),
+    }
+}
+
+fn ask(event: &Event, areas: ticket_calls::Areas) -> u32 {
+    let ticket_calls::Areas {
+        replica,
+        area,
+        frame,
+        command,
+        lengths,
+        ticket: [ticket],
+    } = areas;
+    let lent = replica::Areas { frame, command };
+    match event {
+        Event::Tick { readings } => {
+            let (kinds, bits) = numbers_of(readings);
+            tickets::ask_tick(replica, &kinds, &bits, area, lent, lengths, ticket)
+        }
+        Event::GiveUp => tickets::ask_give_up(replica, area, lent, lengths, ticket),
+        Event::Arrive { bytes } => tickets::ask_arrive(replica, bytes, area, lent, lengths, ticket),
+    }
+}
+
+fn step(event: &Event, areas: ticket_calls::Areas) -> u32 {
+    let ticket_calls::Areas {
+        replica,
+        frame,
+        command,
+        lengths,
+        ..
+    } = areas;
+    let lent = replica::Areas { frame, command };
+    match event {
+        Event::Tick { readings } => {
+            let (kinds, bits) = numbers_of(readings);
+            tickets::ticketed_tick(replica, &kinds, &bits, lent, lengths)
+        }
+        Event::GiveUp => tickets::ticketed_give_up(replica, lent, lengths),
+        Event::Arrive { bytes } => tickets::ticketed_arrive(replica, bytes, lent, lengths),
     }
 }

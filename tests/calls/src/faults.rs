@@ -6,8 +6,9 @@ use std::process::Command;
 
 use second::fault::{Fault, CALL_NAMES, FRAME_NAMES, LAW_NAMES, NAMES, PAGE_NAMES};
 use second::fault::{READING_NAMES, RECORD_NAMES, ROUNDING_NAMES, STEP_NAMES, VARIABLE};
+use second::fault::{TICKET_CALL_NAMES, TICKET_NAMES};
 
-use crate::{frames, law, lists, pages, records, singles, steps};
+use crate::{frames, law, lists, pages, records, singles, steps, tickets};
 
 const MOST_CALLS: usize = 100_000;
 const MOST_LISTS: usize = 20_000;
@@ -30,7 +31,9 @@ pub fn table(seed: u64) -> Result<(), String> {
         & rows(seed, "lists", &of_lists())?
         & rows(seed, "pages", &of_pages())?
         & rows(seed, "records", &RECORD_NAMES)?
-        & rows(seed, "records", &CALL_NAMES)?;
+        & rows(seed, "records", &CALL_NAMES)?
+        & rows(seed, "tickets", &of_tickets())?
+        & rows(seed, "tickets", &TICKET_CALL_NAMES)?;
     match all_found {
         true => Ok(()),
         false => Err("a planted fault was not found".to_string()),
@@ -67,6 +70,12 @@ fn of_pages() -> Vec<Named> {
         Fault::PeriodsBeforeArea,
     ];
     without(&PAGE_NAMES, &others)
+}
+
+/// The faults of tickets that areas can show: an area has no place for what a
+/// void ticket's step leaves, so none is taken there even with the fault.
+fn of_tickets() -> Vec<Named> {
+    without(&TICKET_NAMES, &[Fault::VoidTaken])
 }
 
 fn without(faults: &[Named], others: &[Fault]) -> Vec<Named> {
@@ -111,6 +120,7 @@ pub fn search(calls: &str, seed: u64) -> Result<(), String> {
         "lists" => first_difference(lists::compare, seed, MOST_LISTS),
         "pages" => first_difference(pages::compare, seed, MOST_PAGES),
         "records" => first_difference(records::compare, seed, MOST_CALLS),
+        "tickets" => first_difference(tickets::compare, seed, MOST_CALLS),
         _ => return Err(format!("{calls}: no calls that are searched")),
     };
     match found {

@@ -8,6 +8,7 @@ use crate::handed_readings::numbers_of;
 use crate::page_areas::{words_of, PAGE_WORDS};
 use crate::page_calls::Writing;
 use crate::record_calls::{Areas, Asked};
+use crate::ticket_calls::{self, Event, Name};
 
 /// The sizes in the settings are not looked at.
 pub fn sized(sizes: Sizes, settings: &Settings) -> winder::Settings {
@@ -98,6 +99,54 @@ pub fn on_record(asked: &Asked, areas: Areas) -> u32 {
         Asked::Arrive { bytes } => winder::arrive(record, bytes, lent),
         Asked::Record => winder::record(record, area),
         Asked::Return { missed } => winder::return_from(record, *missed, area),
+    }
+}
+
+pub fn on_tickets(name: &Name, areas: ticket_calls::Areas) -> u32 {
+    let ticket_calls::Areas { replica, area, .. } = areas;
+    match name {
+        Name::Tickets => winder::tickets(replica, area),
+        Name::Ask(event) => {
+            let lent = winder::LentToAsk {
+                area,
+                frame: areas.frame,
+                command: areas.command,
+                lengths: areas.lengths,
+                ticket: areas.ticket,
+            };
+            ask(event, replica, lent)
+        }
+        Name::Commit { ticket, .. } => winder::commit(replica, *ticket),
+        Name::Step(event) => {
+            let lent = winder::Lent {
+                frame: areas.frame,
+                command: areas.command,
+                lengths: areas.lengths,
+            };
+            step(event, replica, lent)
+        }
+    }
+}
+
+fn ask(event: &Event, replica: &mut [u8], lent: winder::LentToAsk) -> u32 {
+    match event {
+        Event::Tick { readings } => {
+            let (kinds, bits) = numbers_of(readings);
+            winder::ask_tick(replica, &kinds, &bits, lent)
+        }
+        Event::GiveUp => winder::ask_give_up(replica, lent),
+        Event::Arrive { bytes } => winder::ask_arrive(replica, bytes, lent),
+    }
+}
+
+fn step(event: &Event, replica: &mut [u8], lent: winder::Lent) -> u32 {
+    match event {
+        Event::Tick { readings } => {
+            let (kinds, bits) = numbers_of(readings);
+            winder::ticketed_tick(replica, &kinds, &bits, lent)
+        }
+        Event::GiveUp => winder::ticketed_give_up(replica, lent),
+        Event::Arrive { bytes } => winder::ticketed_arrive(replica, bytes, lent),
     }
 }
 

@@ -1,7 +1,8 @@
 //! Compares frames, law calls, conversions of readings, steps, shift pages and
-//! calls on records of the first implementation, through its static libraries
-//! `winder` and `steps`, with the second implementation of document 01; and
-//! what is read of frames with stored digests.
+//! calls on records and on replicas with tickets of the first implementation,
+//! through its static libraries `winder` and `steps`, with the second
+//! implementation of document 01; and what is read of frames with stored
+//! digests.
 
 #![forbid(unsafe_code)]
 
@@ -52,6 +53,19 @@ mod step_areas;
 mod step_counts;
 mod step_tables;
 mod steps;
+mod ticket_box;
+mod ticket_calls;
+mod ticket_counts;
+mod ticket_damage;
+mod ticket_damage_counts;
+mod ticket_events;
+mod ticket_group;
+mod ticket_layout;
+mod ticket_lent;
+mod ticket_tables;
+mod ticket_writes;
+mod tickets;
+mod traffic;
 mod values;
 
 use std::fmt::Display;
@@ -68,8 +82,9 @@ const USAGE: &str = "usage:
   calls lists COUNT SEED
   calls pages COUNT SEED
   calls records COUNT SEED
+  calls tickets COUNT SEED
   calls faults SEED
-  calls search frames|law|singles|steps|lists|pages|records SEED
+  calls search frames|law|singles|steps|lists|pages|records|tickets SEED
 
 The last is for this program's own use, with a fault planted.";
 
@@ -97,6 +112,12 @@ fn run(words: &[&str]) -> Result<(), String> {
         ["lists", count, seed] => compare("lists", lists::compare, count, seed),
         ["pages", count, seed] => compare("pages", pages::compare, count, seed),
         ["records", count, seed] => compare("calls on records", records::compare, count, seed),
+        ["tickets", count, seed] => compare(
+            "calls on replicas with tickets",
+            tickets::compare,
+            count,
+            seed,
+        ),
         ["faults", seed] => faults::table(number(seed)?),
         ["search", calls, seed] => {
             second::fault::plant_from_environment()?;

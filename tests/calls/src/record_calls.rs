@@ -27,7 +27,7 @@ pub const ENOUGH: Lent = Lent {
 
 /// Longer than any area lent, so that a byte written after one shows.
 const STEP_BUFFER: usize = 96;
-const RECORD_BUFFER: usize = 720;
+const RECORD_BUFFER: usize = 800;
 
 /// What is called, with all that is handed in beside the record.
 #[derive(Clone, Debug)]

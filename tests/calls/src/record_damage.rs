@@ -1,6 +1,8 @@
 //! Records whole and damaged: one field out of its range, at its edge, or as
 //! no record has it.
 
+use std::ops::Range;
+
 use crate::areas::Sizes;
 use crate::field_damage::*;
 use crate::prng::Prng;
@@ -15,6 +17,12 @@ pub struct Damage {
     has: fn(&[u8]) -> bool,
     damage: OfRecord,
 }
+
+/// The damages of a field: the length of the record stays.
+pub const OF_FIELDS: Range<usize> = 4..43;
+
+/// The damages of a field that a step changes.
+pub const OF_STEPPED: Range<usize> = 19..42;
 
 /// Every damage.
 pub const DAMAGES: [Damage; 43] = [
@@ -164,7 +172,12 @@ pub fn damage(prng: &mut Prng, record: &mut Record) -> usize {
     if prng.chance(50) {
         return 0;
     }
-    let place = 1 + prng.below(DAMAGES.len() - 1);
+    damage_one(prng, record, 1..DAMAGES.len())
+}
+
+/// The same with one of these damages, unless the record is without the field.
+pub fn damage_one(prng: &mut Prng, record: &mut Record, places: Range<usize>) -> usize {
+    let place = places.start + prng.below(places.len());
     let Damage { has, damage, .. } = DAMAGES[place];
     match has(record) {
         true => {
@@ -206,6 +219,13 @@ mod tests {
         "best: base view",
         "best: base period",
     ];
+
+    #[test]
+    fn the_damages_of_fields_are_where_they_are_said_to_be() {
+        let ends = |places: Range<usize>| [places.start, places.end - 1].map(|at| DAMAGES[at].name);
+        assert_eq!(ends(OF_FIELDS), ["letter", "a byte at random"]);
+        assert_eq!(ends(OF_STEPPED), ["period", "best: a value from m on"]);
+    }
 
     #[test]
     fn every_other_damage_is_refused() {

@@ -8,6 +8,7 @@ use crate::record_calls::{Asked, Lent, Making, ENOUGH, LONGEST};
 use crate::record_group::Group;
 use crate::record_layout::*;
 use crate::step_areas::handed_in_of;
+use crate::traffic::Traffic;
 use crate::values::{byte, counter, other_byte};
 
 /// What is called with a whole record of the group, which may be damaged after
@@ -20,7 +21,7 @@ pub fn make(prng: &mut Prng, record: &[u8], group: &Group) -> Asked {
         },
         27..=36 => Asked::GiveUp,
         37..=77 => Asked::Arrive {
-            bytes: arriving(prng, record, group),
+            bytes: arriving(prng, record, &group.traffic),
         },
         78..=83 => Asked::Record,
         _ => Asked::Return {
@@ -41,7 +42,7 @@ fn making(prng: &mut Prng) -> Asked {
 }
 
 /// At times with readings at or above m that are there.
-fn readings(prng: &mut Prng, m: usize) -> [handed_readings::Handed; 4] {
+pub fn readings(prng: &mut Prng, m: usize) -> [handed_readings::Handed; 4] {
     match prng.chance(20) {
         true => handed_readings::below(prng, 4),
         false => handed_readings::below(prng, m),
@@ -50,9 +51,9 @@ fn readings(prng: &mut Prng, m: usize) -> [handed_readings::Handed; 4] {
 
 /// A frame that fits the replica, one of the group's, for this box or not, or
 /// one of these with a byte changed, cut off or added.
-fn arriving(prng: &mut Prng, record: &[u8], group: &Group) -> Vec<u8> {
+pub fn arriving(prng: &mut Prng, record: &[u8], traffic: &Traffic) -> Vec<u8> {
     let of_group = match prng.chance(50) {
-        true => group.frame_for(prng, record[OWN]),
+        true => traffic.frame_for(prng, record[OWN]),
         false => None,
     };
     match of_group {
@@ -105,7 +106,7 @@ pub fn lent(prng: &mut Prng) -> Lent {
     }
 }
 
-fn length(prng: &mut Prng, enough: usize, longest: usize) -> usize {
+pub fn length(prng: &mut Prng, enough: usize, longest: usize) -> usize {
     match prng.below(40) {
         0 => enough - 1,
         1 => 0,

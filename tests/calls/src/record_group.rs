@@ -2,15 +2,13 @@
 //! implementations: orderly periods, lost frames, given-up views, open
 //! take-overs, and boxes that return.
 
-use second::frame::{DECIDE, PROPOSE};
-use second::replica::coordinator;
-
 use crate::areas::Sizes;
 use crate::handed_readings;
 use crate::law_call;
 use crate::prng::Prng;
 use crate::record_calls::{called_by_both, Asked, Call, Making, ENOUGH};
-use crate::record_layout::{number, sizes, Record, MODE};
+use crate::record_layout::{sizes, Record, MODE};
+use crate::traffic::Traffic;
 
 /// A life has fewer calls than so many for each box of the group.
 const STEPS_OF_BOX: usize = 9;
@@ -18,10 +16,7 @@ const STEPS_OF_BOX: usize = 9;
 pub struct Group {
     /// Of box 1, box 2 and so on.
     records: Vec<Record>,
-    /// All that was sent.
-    sent: Vec<Vec<u8>>,
-    /// Frames that are under way, with the place of the box that each goes to.
-    under_way: Vec<(usize, Vec<u8>)>,
+    pub traffic: Traffic,
     /// Calls that it still makes.
     left: usize,
     /// Calls that it made.
@@ -50,8 +45,7 @@ impl Group {
         let boxes = 3 + prng.below(7) as u8;
         let mut group = Group {
             records: vec![],
-            sent: vec![],
-            under_way: vec![],
+            traffic: Traffic::default(),
             left: boxes.into(),
             calls: 0,
         };
@@ -86,28 +80,14 @@ impl Group {
             0 => {
                 self.records[place] = left.given(&call.asked).to_vec();
                 if call.asked.is_step() {
-                    self.send(place, left.sent());
+                    let boxes = self.records.len();
+                    self.traffic.send(boxes, place, left.sent());
                 }
                 Ok(())
             }
             winder::IGNORED => Ok(()),
             number => Err(format!("{call:?}: refused by {number}")),
         }
-    }
-
-    /// Propose and Decide go to all other boxes, an Ack and an Estimate to the
-    /// coordinator of the frame's view.
-    fn send(&mut self, from: usize, frame: &[u8]) {
-        if frame.is_empty() {
-            return;
-        }
-        self.sent.push(frame.to_vec());
-        let boxes = self.records.len();
-        let to_all = [PROPOSE, DECIDE].contains(&frame[0]);
-        let to = usize::from(coordinator(boxes as u8, number(frame, 8))) - 1;
-        let places = (0..boxes).filter(|&place| place != from && (to_all || place == to));
-        self.under_way
-            .extend(places.map(|place| (place, frame.to_vec())));
     }
 
     /// Most boxes tick, in any order; a few return instead.
@@ -143,15 +123,13 @@ impl Group {
     }
 
     /// Frames arrive in any order, with those that are sent on them; some are
-    /// lost, some stay under way, some arrive twice.
+    /// lost, some stay under way.
     fn deliver(&mut self, prng: &mut Prng) -> Result<(), String> {
         let percent = prng.pick(&[0, 50, 90, 100]);
-        while self.left > 0 && !self.under_way.is_empty() && !prng.chance(1) {
-            let one = prng.below(self.under_way.len());
-            let (place, bytes) = self.under_way.swap_remove(one);
-            if prng.chance(2) {
-                self.under_way.push((place, bytes.clone()));
-            }
+        while self.left > 0 {
+            let Some((place, bytes)) = self.traffic.next(prng) else {
+                break;
+            };
             if prng.chance(percent) {
                 self.call(place, Asked::Arrive { bytes })?;
             }
@@ -168,19 +146,5 @@ impl Group {
             true => prng.pick(&all).clone(),
             false => prng.pick(&changing).clone(),
         }
-    }
-
-    /// One of the frames that were sent, more often one that is under way to
-    /// this box; none where there is none.
-    pub fn frame_for(&self, prng: &mut Prng, own: u8) -> Option<Vec<u8>> {
-        let to_own = |(place, _): &&(usize, Vec<u8>)| *place + 1 == usize::from(own);
-        let under_way = self.under_way.iter().filter(to_own);
-        let under_way: Vec<&Vec<u8>> = under_way.map(|(_, frame)| frame).collect();
-        let sent: Vec<&Vec<u8>> = self.sent.iter().collect();
-        let frames = match under_way.is_empty() || prng.chance(25) {
-            true => sent,
-            false => under_way,
-        };
-        (!frames.is_empty()).then(|| prng.pick(&frames).clone())
     }
 }

@@ -1,8 +1,12 @@
 //! What occurred over a run, counted by the generator while it writes.
 
+mod asks;
+
 use std::fmt;
 
 use second::reading::Reading;
+
+pub use asks::{Asks, Ground};
 
 use crate::single_bits::{converted, CLASSES};
 
@@ -28,6 +32,8 @@ pub struct Counts {
     pub spoiled_scripts: usize,
     /// Rig scripts with power cycles.
     pub storing_scripts: usize,
+    /// Of these, such as have asks.
+    pub asking_scripts: usize,
     pub lines: usize,
     pub ticks: usize,
     /// Readings handed to ticks, by kind.
@@ -67,8 +73,9 @@ pub struct Counts {
     pub steps_lost: usize,
     pub frames_never_left: usize,
     pub commands_never_left: usize,
-    /// By refusal number; place 0 is unused.
-    pub refused: [usize; 17],
+    pub asks: Asks,
+    /// By refusal number; place 0 is unused. Those of asks are counted apart.
+    pub refused: [usize; 18],
 }
 
 impl Counts {
@@ -147,6 +154,7 @@ impl fmt::Display for Counts {
             ("rig scripts", self.rig_scripts),
             ("  with a spoiled first line", self.spoiled_scripts),
             ("  with power cycles", self.storing_scripts),
+            ("  of these, with asks", self.asking_scripts),
             ("lines", self.lines),
             ("ticks", self.ticks),
             ("  to make up for missed periods", self.made_up_ticks),
@@ -170,6 +178,7 @@ impl fmt::Display for Counts {
             writeln!(out, "{name:<34}{count:>9}")?;
         }
         self.write_power(out)?;
+        write!(out, "{}", self.asks)?;
         self.write_readings(out)?;
         for (number, count) in self.refused.iter().enumerate().skip(1) {
             if !Self::is_an_answer(number) {

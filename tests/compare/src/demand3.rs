@@ -9,12 +9,18 @@
 //! Document 02, L4: where records are stored, commands that never left don't
 //! count, and a box that returns has behind it the rows of the record and one
 //! with no reading for each missed period.
+//!
+//! L6: "the commit counts as writing and sending what its ask gave". The row of
+//! a tick that was asked is behind a box from its commit on, or from a return
+//! from its record.
 
 use std::collections::{BTreeMap, HashMap};
 
 use second::law::{self, Settings, State};
 
+use crate::behind::Behind;
 use crate::group::Group;
+use crate::leaving::leaving;
 use crate::past::{Past, Row};
 use crate::played::{self, Host, Played, What};
 
@@ -55,50 +61,59 @@ pub fn check(
 /// Reads a script with its output.
 struct Reader {
     seen: Seen,
-    /// What is behind each box, and behind the record that it stored last.
-    boxes: Vec<(Past, Option<Past>)>,
+    boxes: Vec<Behind>,
 }
 
 impl Reader {
     fn read(group: &Group, host: Host, played: &[Option<Played>]) -> Result<Seen, String> {
-        let left = played::leaving(host, played);
+        let left = leaving(host, played);
         let mut reader = Reader {
             seen: Seen::default(),
-            boxes: vec![Default::default(); group.boxes.into()],
+            boxes: vec![Behind::default(); group.boxes.into()],
         };
         for (line, left) in played.iter().zip(left) {
-            match line {
-                Some(line) if line.is_ok => reader.take(line, left.is_some())?,
-                _ => {}
+            if let Some(line) = line {
+                reader.take(line, left.is_some())?;
             }
         }
-        reader
-            .boxes
-            .iter()
-            .for_each(|(past, _)| reader.seen.take_rows(past));
+        for behind in &reader.boxes {
+            reader.seen.take_rows(behind.now());
+        }
         Ok(reader.seen)
     }
 
     fn take(&mut self, line: &Played, has_left: bool) -> Result<(), String> {
         let no_box = || format!("no box {}", line.place + 1);
-        let (past, stored) = self.boxes.get_mut(line.place).ok_or_else(no_box)?;
-        let shown = match &line.what {
-            What::Tick(readings) => past.tick(*readings),
-            What::GiveUp | What::Deliver(_) => None,
+        let behind = self.boxes.get_mut(line.place).ok_or_else(no_box)?;
+        if let What::Ask(event, ticket) = line.what {
+            behind.ask(ticket, line.is_ok.then_some(event));
+        }
+        if !line.is_ok {
+            return Ok(());
+        }
+        let mut ticket = None;
+        let shown = match line.what {
+            What::Event(event) => behind.step(event),
+            What::Ask(..) => None,
+            What::Commit(committed) => {
+                ticket = Some(committed);
+                behind.commit(committed)?
+            }
             What::Store => {
-                *stored = Some(past.clone());
+                behind.store();
                 None
             }
-            What::Return { missed } => {
-                *past = stored.clone().ok_or("a return from no record")?;
-                past.miss(*missed)
+            What::StoreAsked => {
+                behind.store_asked()?;
+                None
             }
+            What::Return { missed } => behind.come_back(missed)?,
         };
         if let Some(period) = shown {
             self.seen.take_state(period, line.state.clone())?;
         }
         if let (Some(command), true) = (&line.command, has_left) {
-            past.decide(line.period);
+            behind.decide(line.period, ticket);
             self.seen.take_command(line.period, command.clone())?;
         }
         Ok(())
@@ -251,6 +266,9 @@ fn start(settings: &Settings) -> State {
     state[..n].copy_from_slice(&settings.start[..n]);
     state
 }
+
+#[cfg(test)]
+mod asked;
 
 #[cfg(test)]
 mod tests {

@@ -1,8 +1,11 @@
 //! Whether the comparison finds faults planted on purpose, and how soon.
 
-use second::fault::{Fault, NAMES, READING_NAMES, RECORD_NAMES, ROUNDING_NAMES, STORE_NAMES};
+use second::fault::{
+    planted, Fault, NAMES, READING_NAMES, RECORD_NAMES, ROUNDING_NAMES, STORE_NAMES, TICKET_NAMES,
+};
 
 use crate::counts::Counts;
+use crate::generator::ONE_ASKING;
 use crate::run::{library, Programs};
 use crate::{demand3, generator, run};
 
@@ -22,9 +25,10 @@ pub fn table(seed: u64, second: impl Fn() -> Result<Programs, String>) -> Result
     let mut all_found = true;
     let names = NAMES.into_iter().chain(READING_NAMES).chain(ROUNDING_NAMES);
     let names = names.chain(RECORD_NAMES).chain(STORE_NAMES);
+    let names = names.chain(TICKET_NAMES);
     for (name, fault) in names.filter(shows) {
         let is_safe = keeps_demand3(fault);
-        let found = look_for(seed, &second()?.with_fault(name), is_safe)?;
+        let found = look_for(seed, fault, &second()?.with_fault(name))?;
         // By demand 3, on scripts written while the faulty replicas run, so
         // that the frames which only they send are delivered too.
         let own = match is_of_law(fault) {
@@ -71,14 +75,29 @@ fn shows((_, fault): &(&str, Fault)) -> bool {
 }
 
 /// Whether demand 3 holds with a fault all the same: a box may miss one period
-/// more than it may return with.
+/// more than it may return with, a commit may be refused, or change nothing.
 fn keeps_demand3(fault: Fault) -> bool {
-    fault == Fault::MissedBeyondTaken
+    let keeping = [
+        Fault::MissedBeyondTaken,
+        Fault::IgnoredCommitted,
+        Fault::CommittedTwice,
+        Fault::TicketsGoOn,
+        Fault::RefusedStepVoids,
+    ];
+    keeping.contains(&fault)
 }
 
-fn look_for(seed: u64, faulty: &Programs, by_output_alone: bool) -> Result<Found, String> {
+/// The scripts that can show a fault: of tickets those with asks alone.
+fn numbers(is_shown: impl Fn(Fault) -> bool) -> impl Iterator<Item = usize> {
+    let of_tickets = TICKET_NAMES.iter().any(|(_, fault)| is_shown(*fault));
+    let every = if of_tickets { ONE_ASKING } else { 1 };
+    (every..=MOST_SCRIPTS).step_by(every)
+}
+
+fn look_for(seed: u64, fault: Fault, faulty: &Programs) -> Result<Found, String> {
+    let by_output_alone = keeps_demand3(fault);
     let mut found = Found::default();
-    for number in 1..=MOST_SCRIPTS {
+    for number in numbers(|known| known == fault) {
         let script = generator::script(seed, number, &mut Counts::default());
         let output = faulty.run(&script)?;
         if found.by_output.is_none() && output != library(&script) {
@@ -100,7 +119,7 @@ fn look_for(seed: u64, faulty: &Programs, by_output_alone: bool) -> Result<Found
 /// The first script whose output demand 3 refuses, where generator, replicas
 /// and law all have the fault that is planted in this process.
 pub fn own_search(seed: u64) -> Option<usize> {
-    (1..=MOST_SCRIPTS).find(|&number| {
+    numbers(planted).find(|&number| {
         let script = generator::script(seed, number, &mut Counts::default());
         let check =
             |lines: &Vec<_>| demand3::check(&script.group, script.host, lines, &library(&script));

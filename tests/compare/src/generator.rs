@@ -1,19 +1,23 @@
 //! The directed generator: periods of several kinds, one after the other,
 //! until the script is full.
 
+mod asks;
 mod power;
 
 use crate::counts::Counts;
 use crate::group::Group;
 use crate::played::Host;
 use crate::prng::Prng;
-use crate::writer::Writer;
+use crate::writer::{Asking, Writer};
 
 /// "It reads at most 500 lines"
 const MOST_LINES: i32 = 500;
 
 /// One script of so many has power cycles.
 const ONE_STORING: usize = 3;
+
+/// One of so many has power cycles and asks.
+pub const ONE_ASKING: usize = 6;
 
 pub struct Script {
     pub is_rig: bool,
@@ -29,7 +33,7 @@ pub struct Script {
 pub fn script(seed: u64, number: usize, counts: &mut Counts) -> Script {
     let prng = &mut Prng::of_script(seed, number);
     if number.is_multiple_of(ONE_STORING) {
-        return storing_script(prng, counts);
+        return storing_script(prng, number.is_multiple_of(ONE_ASKING), counts);
     }
     let is_rig = !prng.chance(20);
     let group = match is_rig {
@@ -43,7 +47,7 @@ pub fn script(seed: u64, number: usize, counts: &mut Counts) -> Script {
         true => counts.rig_scripts += 1,
         false => counts.bench_scripts += 1,
     }
-    let lines = written_lines(prng, group, Host::Plain, counts);
+    let lines = written_lines(prng, group, Host::Plain, None, counts);
     let first_line = is_rig.then(|| group.first_line());
     Script {
         is_rig,
@@ -54,14 +58,17 @@ pub fn script(seed: u64, number: usize, counts: &mut Counts) -> Script {
     }
 }
 
-/// A rig script with records that are stored and boxes that return.
-fn storing_script(prng: &mut Prng, counts: &mut Counts) -> Script {
+/// A rig script with records that are stored and boxes that return, also with
+/// events that are asked first.
+fn storing_script(prng: &mut Prng, asks: bool, counts: &mut Counts) -> Script {
     counts.rig_scripts += 1;
     counts.storing_scripts += 1;
+    counts.asking_scripts += usize::from(asks);
     let mut group = Group::random(prng);
     // Most groups are small, for the sake of more periods in a script.
     group.boxes = prng.pick(&[3, 3, 3, 4, 4, 5, 5, 6, 7, 8, 9]);
-    let lines = written_lines(prng, group, Host::Storing, counts);
+    let asking = asks.then(|| Asking::random(prng));
+    let lines = written_lines(prng, group, Host::Storing, asking, counts);
     Script {
         is_rig: true,
         group,
@@ -72,7 +79,13 @@ fn storing_script(prng: &mut Prng, counts: &mut Counts) -> Script {
 }
 
 /// Periods until the script is full; now and then some lines too many.
-fn written_lines(prng: &mut Prng, group: Group, host: Host, counts: &mut Counts) -> Vec<Vec<u8>> {
+fn written_lines(
+    prng: &mut Prng,
+    group: Group,
+    host: Host,
+    asking: Option<Asking>,
+    counts: &mut Counts,
+) -> Vec<Vec<u8>> {
     let too_many = prng.chance(5);
     let least = match host {
         Host::Plain => 200,
@@ -83,6 +96,7 @@ fn written_lines(prng: &mut Prng, group: Group, host: Host, counts: &mut Counts)
         false => prng.between(least, MOST_LINES),
     };
     let mut course = Course::new(prng, counts, group, host, limit as usize);
+    course.writer.asking = asking;
     while !course.writer.is_full() {
         course.period();
     }
@@ -211,6 +225,7 @@ impl<'a> Course<'a> {
             Host::Storing => self.tick_and_restore(),
         }
         match self.kind_of_period() {
+            _ if self.writer.asking.is_some() && self.chance(15) => self.asked_acks(),
             _ if self.host == Host::Storing && self.chance(15) => self.acks_survive(),
             0 => self.orderly(),
             1 => self.lossy(),
@@ -581,6 +596,8 @@ mod tests {
             counts.commands_never_left,
             counts.blackouts,
             counts.refused[16],
+            counts.asking_scripts,
+            counts.refused[17],
         ];
         let readings = [
             counts.handed_counts,
@@ -588,8 +605,9 @@ mod tests {
             counts.handed_singles,
             counts.missing_singles,
         ];
+        let asks = counts.asks.all();
         let cases = cases.iter().chain(&readings).chain(&counts.single_classes);
-        let mut cases = cases.chain(&power).chain(&counts.returns);
+        let mut cases = cases.chain(&power).chain(&counts.returns).chain(&asks);
         // Returns with 10,000 missed periods take time, so there are few.
         assert!(cases.all(|&count| count >= 5), "{counts}");
     }
@@ -618,6 +636,17 @@ mod tests {
             }
         }
         assert!(met[3..].iter().all(|&count| count > 0), "{met:?}");
+    }
+
+    /// Half of the scripts with power cycles have asks, the others none.
+    #[test]
+    fn every_second_script_with_power_cycles_has_asks() {
+        for number in 1..=60 {
+            let mut counts = Counts::default();
+            let script = script(8, number, &mut counts);
+            assert_eq!(counts.asks.ok > 0, number % 6 == 0, "{number}");
+            assert!(script.host == Host::Storing || counts.asks == Default::default());
+        }
     }
 
     #[test]

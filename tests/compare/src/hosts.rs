@@ -26,11 +26,12 @@ const MOST_HISTORIES: usize = 5_000;
 const MOST_SHRUNK: usize = 40;
 
 /// The conditions, with a name for a host that breaks each.
-const HOSTS: [(&str, Condition); 4] = [
+const HOSTS: [(&str, Condition); 5] = [
     ("sent-before-stored", Condition::StoredFirst),
     ("stored-out-of-order", Condition::InOrder),
     ("older-record-returned", Condition::LastReturned),
     ("stored-after-return", Condition::GoneAtStop),
+    ("unstepped-after-ask", Condition::UnsteppedFirst),
 ];
 
 /// Searches again; prints what was found. The error says which condition can
@@ -187,7 +188,9 @@ fn printed(input: &str) -> Vec<u8> {
 
 #[cfg(test)]
 mod tests {
+    use super::history::What;
     use super::*;
+    use crate::leaving;
 
     const EXAMPLES: &str = concat!(env!("CARGO_MANIFEST_DIR"), "/../../docs/power-cycles");
 
@@ -211,6 +214,33 @@ mod tests {
         assert!(!(1..=1_000).any(|number| found(None, number)));
     }
 
+    /// Commits, records of asks that are returned and never committed, and
+    /// records of the replica while something is asked.
+    #[test]
+    fn the_host_that_keeps_all_conditions_asks() {
+        let mut met = [0; 3];
+        for number in 1..=200 {
+            let prng = &mut Prng::of_script(9, number);
+            let entries = Random::run(prng, Group::bench(), None).entries;
+            let is_ask = |number| {
+                let made = entries.iter().find(|entry| entry.number == number);
+                made.is_some_and(|entry| matches!(entry.what, What::Ask(_)))
+            };
+            let is_committed = |ask| entries.iter().any(|entry| entry.what == What::Commit(ask));
+            for entry in &entries {
+                match entry.what {
+                    What::Commit(_) => met[0] += 1,
+                    What::Return { record, .. } if is_ask(record) && !is_committed(record) => {
+                        met[1] += 1;
+                    }
+                    What::Record => met[2] += 1,
+                    _ => {}
+                }
+            }
+        }
+        assert!(met.iter().all(|&count| count > 50), "{met:?}");
+    }
+
     /// The scripts kept in docs/ still lead to two commands of one period.
     #[test]
     fn kept_examples_violate_demand_3() {
@@ -227,16 +257,17 @@ mod tests {
         }
     }
 
-    /// In a script each of them is a frame delivered that no `S` let leave.
+    /// In a script each of them is a frame delivered that no `S` let leave, or
+    /// the replica as it is stored after what was asked.
     #[test]
-    fn kept_examples_deliver_what_has_not_left() {
+    fn kept_examples_break_a_condition() {
         for (name, _) in HOSTS {
             let input = fs::read_to_string(Path::new(EXAMPLES).join(format!("{name}.rig")));
             let input = input.unwrap();
             let lines = input.lines().skip(1).map(|line| line.as_bytes().to_vec());
             let lines: Vec<Vec<u8>> = lines.collect();
             let played = played::played(&lines, &printed(&input)).unwrap();
-            assert!(played::frames_left(played::Host::Storing, &played).is_err());
+            assert!(leaving::conditions_kept(played::Host::Storing, &played).is_err());
         }
     }
 }

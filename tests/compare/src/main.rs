@@ -3,12 +3,14 @@
 
 #![forbid(unsafe_code)]
 
+mod behind;
 mod counts;
 mod demand3;
 mod faults;
 mod generator;
 mod group;
 mod hosts;
+mod leaving;
 mod malformed;
 mod pages;
 mod past;

@@ -1,5 +1,7 @@
 //! Script lines that are answered by `bad`.
 
+mod asks;
+
 use crate::prng::Prng;
 
 /// What a malformed line is made for.
@@ -14,7 +16,14 @@ pub struct Place<'a> {
     pub unsent: &'a [usize],
     /// Numbers of boxes that have stored no record.
     pub without_record: &'a [usize],
+    /// Numbers of boxes whose latest ask gave no record, or that were asked
+    /// nothing.
+    pub without_ask: &'a [usize],
 }
+
+/// One malformed line of so many resembles an ask, a commit or a store of what
+/// was asked.
+const ONE_OF_ASKS: usize = 4;
 
 /// Words that resemble a single's and are no reading in any script.
 const NO_SINGLES: [&str; 16] = [
@@ -45,7 +54,18 @@ const SINGLES: [&str; 5] = [
     "fffffffff",
 ];
 
+/// A malformed line. Those of asks have a generator of their own, so that a
+/// script without asks is the same but for them.
 pub fn line(prng: &mut Prng, place: &Place) -> Vec<u8> {
+    let other = other_line(prng, place);
+    let own = &mut Prng::of_script(place.line as u64, other.len());
+    match own.below(ONE_OF_ASKS) {
+        0 => asks::line(own, place),
+        _ => other,
+    }
+}
+
+fn other_line(prng: &mut Prng, place: &Place) -> Vec<u8> {
     let number = prng.between(1, place.boxes.into()).to_string();
     let reading = match place.takes_singles {
         true => prng.pick(&["7", "f3fc00000"]),
@@ -170,26 +190,42 @@ mod tests {
         String::from_utf8(output).unwrap()
     }
 
+    fn place(takes_singles: bool) -> Place<'static> {
+        Place {
+            boxes: 3,
+            readings: 1,
+            takes_singles,
+            line: 2,
+            unsent: &[1],
+            without_record: &[1, 3],
+            without_ask: &[1, 2, 3],
+        }
+    }
+
     #[test]
     fn each_is_answered_by_bad() {
         let mut prng = Prng::new(2);
-        for takes_singles in [false, true] {
-            let place = Place {
-                boxes: 3,
-                readings: 1,
-                takes_singles,
-                line: 2,
-                unsent: &[1],
-                without_record: &[1, 3],
-            };
+        let makers = [other_line, asks::line];
+        for (takes_singles, maker) in [(false, 0), (true, 0), (false, 1), (true, 1)] {
             for _ in 0..2_000 {
-                let script = [b"T 2 5\n".to_vec(), line(&mut prng, &place)].concat();
+                let line = makers[maker](&mut prng, &place(takes_singles));
+                let script = [b"T 2 5\n".to_vec(), line].concat();
                 let output = played(takes_singles, &script);
                 // An empty last line is none at all.
                 let bad = output.ends_with("\n2 bad\n") || script.ends_with(b"5\n");
                 assert!(bad, "{:?}", String::from_utf8_lossy(&script));
             }
         }
+    }
+
+    /// An ask sends nothing, and what it gave cannot be stored where it was
+    /// ignored.
+    #[test]
+    fn what_an_ask_has_not_sent_or_given_is_bad() {
+        let output = played(true, b"AT 1 5\nD 2 1\nAD 2 1\nSA 2\nAG 2\nSA 2\nSA 1\n");
+        let bad = output.lines().filter(|row| row.ends_with(" bad"));
+        assert_eq!(bad.count(), 4, "{output}");
+        assert!(output.ends_with("\n7 1 ok 0 0 0 0 0 - -\n"), "{output}");
     }
 
     #[test]

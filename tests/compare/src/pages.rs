@@ -33,6 +33,7 @@ pub fn compare(count: usize, seed: u64, page: &str) -> Result<(), String> {
             ));
         }
         tally.count(&found);
+        tally.count_asks(&text);
     }
     print!("{count} texts of seed {seed}: no difference\n{tally}");
     Ok(())
@@ -98,8 +99,9 @@ fn damaged(text: &[u8], prng: &mut Prng) -> Vec<u8> {
 
 /// Words that a line may have in place of one of its own: in form or range they
 /// are at an edge, or beyond it.
-const WORDS: [&str; 26] = [
+const WORDS: [&str; 32] = [
     "-",
+    "?",
     "ok",
     "ignored",
     "bad",
@@ -107,6 +109,8 @@ const WORDS: [&str; 26] = [
     "r13",
     "r15",
     "r16",
+    "r17",
+    "r18",
     "r0",
     "0",
     "1",
@@ -117,6 +121,9 @@ const WORDS: [&str; 26] = [
     "01",
     "4294967295",
     "4294967296",
+    "18446744073709551615",
+    "18446744073709551616",
+    "018446744073709551615",
     "-1",
     "-0",
     "+1",
@@ -130,13 +137,27 @@ const WORDS: [&str; 26] = [
 /// Changes a line in one way.
 fn damage(line: &mut Vec<u8>, prng: &mut Prng) {
     let at = prng.below(line.len() + 1);
-    match prng.below(6) {
+    match prng.below(8) {
         0 => line.insert(at, prng.pick(b" ,-*01r\t\r")),
         1 if at < line.len() => drop(line.remove(at)),
         2 if at < line.len() => line[at] = prng.next() as u8 | 1,
         3 => line.push(b'*'),
         4 => line.clear(),
+        5 => change_ticket(line, prng),
         _ => replace_field(line, prng),
+    }
+}
+
+/// An ask's line is one of eleven fields: the last is lost, or there is one
+/// more.
+fn change_ticket(line: &mut Vec<u8>, prng: &mut Prng) {
+    let last = line.iter().rposition(|&byte| byte == b' ');
+    match (last, prng.chance(50)) {
+        (Some(last), true) => line.truncate(last),
+        _ => {
+            line.push(b' ');
+            line.extend(prng.pick(&WORDS).as_bytes());
+        }
     }
 }
 
@@ -154,9 +175,21 @@ struct Tally {
     lines: usize,
     passed: usize,
     passed_over: usize,
+    asking: usize,
+    asks: usize,
+    refused_commits: usize,
 }
 
 impl Tally {
+    /// Lines of eleven fields, damaged ones too, and commits refused.
+    fn count_asks(&mut self, text: &[u8]) {
+        let asks = fields(text).filter(|fields| fields.len() == 11).count();
+        let refused = fields(text).filter(|fields| fields.get(2) == Some(&&b"r17"[..]));
+        self.asking += usize::from(asks > 0);
+        self.asks += asks;
+        self.refused_commits += refused.count();
+    }
+
     fn count(&mut self, (pages, passed_over): &(Vec<u8>, usize)) {
         self.empty += usize::from(pages.is_empty());
         self.several += usize::from(pages.contains(&12));
@@ -164,6 +197,12 @@ impl Tally {
         self.passed += usize::from(*passed_over > 0);
         self.passed_over += passed_over;
     }
+}
+
+/// The fields of each line.
+fn fields(text: &[u8]) -> impl Iterator<Item = Vec<&[u8]>> {
+    let lines = text.split(|&byte| byte == b'\n');
+    lines.map(|line| line.split(|&byte| byte == b' ').collect())
 }
 
 impl fmt::Display for Tally {
@@ -174,6 +213,9 @@ impl fmt::Display for Tally {
             ("lines of pages", self.lines),
             ("texts with lines passed over", self.passed),
             ("  such lines", self.passed_over),
+            ("texts with lines of eleven fields", self.asking),
+            ("  such lines", self.asks),
+            ("lines with r17", self.refused_commits),
         ];
         for (name, count) in named {
             writeln!(out, "{name:<34}{count:>9}")?;

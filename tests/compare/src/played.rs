@@ -10,7 +10,8 @@ pub enum Host {
     /// No record is stored and no box returns: all that a step makes leaves.
     Plain,
     /// "each frame or command left after its step's record was stored": what
-    /// is not stored while the replica is still that step's never leaves.
+    /// is not stored while the replica is still that step's never leaves, but
+    /// for what was asked first, whose record can be stored later.
     Storing,
 }
 
@@ -26,21 +27,34 @@ pub struct Played {
 }
 
 pub enum What {
-    Tick(Readings),
-    GiveUp,
-    /// The frame that this line sent, counted from 0.
-    Deliver(usize),
+    Event(Event),
+    /// The event is asked, and gets this ticket.
+    Ask(Event, u64),
+    /// The ticket is committed.
+    Commit(u64),
     Store,
+    /// What the latest ask gave is stored.
+    StoreAsked,
     Return {
         missed: usize,
     },
 }
 
+#[derive(Clone, Copy)]
+pub enum Event {
+    Tick(Readings),
+    GiveUp,
+    /// The frame that this line sent, counted from 0.
+    Deliver(usize),
+}
+
 impl Played {
-    /// Whether the replica is now the one that this line's own step gave
-    /// back. Document 02's returns and stores are no events.
-    fn is_event(&self) -> bool {
-        matches!(self.what, What::Tick(_) | What::GiveUp | What::Deliver(_))
+    /// The frame that arrives, or is asked for, if one is.
+    pub fn arriving(&self) -> Option<usize> {
+        match self.what {
+            What::Event(Event::Deliver(frame)) | What::Ask(Event::Deliver(frame), _) => Some(frame),
+            _ => None,
+        }
     }
 }
 
@@ -56,7 +70,11 @@ fn read(line: &[u8], row: &str) -> Result<Option<Played>, String> {
     if let [_, "bad"] = fields[..] {
         return Ok(None);
     }
-    let [_, who, answer, period, _, _, _, state, _, command] = fields[..] else {
+    let (fields, ticket) = match fields.split_last() {
+        Some((ticket, ten)) if ten.len() == 10 => (ten, Some(*ticket)),
+        _ => (&fields[..], None),
+    };
+    let &[_, who, answer, period, _, _, _, state, _, command] = fields else {
         return Err(row.to_string());
     };
     let read = || {
@@ -67,7 +85,7 @@ fn read(line: &[u8], row: &str) -> Result<Option<Played>, String> {
         Some(Played {
             place: number::<usize>(who)?.checked_sub(1)?,
             is_ok: answer == "ok",
-            what: what(line)?,
+            what: what(line, ticket)?,
             period: number(period)?,
             state: values(state)?,
             command,
@@ -77,124 +95,41 @@ fn read(line: &[u8], row: &str) -> Result<Option<Played>, String> {
     read().map(Some).ok_or_else(shown)
 }
 
-fn what(line: &[u8]) -> Option<What> {
+/// What a line tells a box to do; a ticket is printed for an ask alone.
+fn what(line: &[u8], ticket: Option<&str>) -> Option<What> {
     let mut words = std::str::from_utf8(line).ok()?.split(' ');
     let letter = words.next()?;
     words.next()?;
-    let what = match letter {
-        "T" => return row(words).map(What::Tick),
-        "G" => What::GiveUp,
-        "D" => What::Deliver(number::<usize>(words.next()?)?.checked_sub(1)?),
-        "S" => What::Store,
-        "R" => What::Return {
+    let what = match (letter, ticket) {
+        ("C", None) => What::Commit(number(words.next()?)?),
+        ("S", None) => What::Store,
+        ("SA", None) => What::StoreAsked,
+        ("R", None) => What::Return {
             missed: number(words.next()?)?,
         },
-        _ => return None,
+        (letter, None) => What::Event(event(letter, &mut words)?),
+        (letter, Some(ticket)) => {
+            let asked = event(letter.strip_prefix('A')?, &mut words)?;
+            What::Ask(asked, number(ticket)?)
+        }
     };
     words.next().is_none().then_some(what)
 }
 
-/// For each line the one by which its frame and its command left, if they
-/// did: the `S` while the replica is still that step's.
-pub fn leaving(host: Host, played: &[Option<Played>]) -> Vec<Option<usize>> {
-    if host == Host::Plain {
-        return (0..played.len()).map(Some).collect();
+fn event<'a>(letter: &str, words: &mut impl Iterator<Item = &'a str>) -> Option<Event> {
+    match letter {
+        "T" => row(words).map(Event::Tick),
+        "G" => Some(Event::GiveUp),
+        "D" => Some(Event::Deliver(
+            number::<usize>(words.next()?)?.checked_sub(1)?,
+        )),
+        _ => None,
     }
-    let mut left = vec![None; played.len()];
-    // By box, the step that the present replica is of.
-    let mut present = std::collections::BTreeMap::new();
-    for (at, line) in played.iter().enumerate() {
-        let Some(line) = line else { continue };
-        match line.what {
-            _ if line.is_event() => drop(present.insert(line.place, at)),
-            What::Store if line.is_ok => {
-                if let Some(step) = present.remove(&line.place) {
-                    left[step] = Some(at);
-                }
-            }
-            // "what was made before a stop and not stored by then is gone"
-            What::Return { .. } if line.is_ok => drop(present.remove(&line.place)),
-            _ => {}
-        }
-    }
-    left
-}
-
-/// That every frame had left when it arrived. Of the host's conditions the
-/// other two hold in any script: `S` stores the replica as it is, and `R`
-/// takes what was stored last.
-pub fn frames_left(host: Host, played: &[Option<Played>]) -> Result<(), String> {
-    let left = leaving(host, played);
-    for (at, line) in played.iter().enumerate() {
-        let Some(Played {
-            what: What::Deliver(frame),
-            ..
-        }) = line
-        else {
-            continue;
-        };
-        let has_left = left.get(*frame).is_some_and(|left| match host {
-            Host::Plain => *frame < at,
-            Host::Storing => left.is_some_and(|left| left < at),
-        });
-        if !has_left {
-            return Err(format!(
-                "line {}: the frame of line {} has not left",
-                at + 1,
-                frame + 1
-            ));
-        }
-    }
-    Ok(())
 }
 
 #[cfg(test)]
 mod tests {
     use super::*;
-
-    /// The lines on the bench's group, with what the second implementation
-    /// prints for them.
-    fn of(lines: &str) -> Vec<Option<Played>> {
-        let (lines, output) = crate::words::on_the_bench_group(lines);
-        played(&lines, &output).unwrap()
-    }
-
-    fn left_by(lines: &str) -> Vec<Option<usize>> {
-        leaving(Host::Storing, &of(lines))
-    }
-
-    #[test]
-    fn a_step_leaves_by_the_store_while_its_replica_is_there() {
-        assert_eq!(left_by("T 1 5\nS 1\n"), [Some(1), None]);
-        // Another box, a bad line and a refused return are between.
-        let lines = "S 1\nT 1 5\nT 2 5\nx\nR 1 10001\nS 1\n";
-        let left = left_by(lines);
-        assert_eq!(left[1..3], [Some(5), None]);
-        // An event of the box is between, be it ignored, or a return.
-        assert_eq!(left_by("T 1 5\nG 1\nS 1\n"), [None, Some(2), None]);
-        assert_eq!(left_by("S 1\nT 1 5\nR 1 0\nS 1\n"), [None; 4]);
-        // Only once.
-        assert_eq!(left_by("T 1 5\nS 1\nS 1\n"), [Some(1), None, None]);
-    }
-
-    #[test]
-    fn a_plain_host_lets_all_leave_at_once() {
-        let played = of("T 1 5\nD 2 1\n");
-        assert_eq!(leaving(Host::Plain, &played), [Some(0), Some(1)]);
-        assert!(frames_left(Host::Plain, &played).is_ok());
-    }
-
-    #[test]
-    fn frames_must_have_left() {
-        let answer = |lines| frames_left(Host::Storing, &of(lines));
-        assert!(answer("T 1 5\nS 1\nD 2 1\n").is_ok());
-        assert!(answer("T 1 5\nS 1\nR 1 0\nD 2 1\n").is_ok());
-        let early = answer("T 1 5\nD 2 1\nS 1\n").unwrap_err();
-        assert_eq!(early, "line 2: the frame of line 1 has not left");
-        assert!(answer("S 1\nT 1 5\nR 1 0\nS 1\nD 2 2\n").is_err());
-        // A bad line delivers nothing.
-        assert!(answer("T 2 5\nD 1 1\n").is_ok());
-    }
 
     #[test]
     fn what_no_program_prints_is_told() {
@@ -204,9 +139,33 @@ mod tests {
             "1 0 ok 1 0 0 1 0 - -",
             "1 1 ok 1 0 0 1 x - -",
             "1 1 ok 1 0 0 1 0 - x",
+            "1 1 ok 1 0 0 1 0 - - 1",
         ] {
             let output = format!("header\n{row}\n");
             assert!(played(&lines, output.as_bytes()).is_err(), "{row}");
+        }
+    }
+
+    /// An ask's row has a ticket, and no other.
+    #[test]
+    fn asks_and_commits_are_read() {
+        let rows = |row: &str| format!("header\n{row}\n").into_bytes();
+        let read = |line: &str, row: &str| played(&[line.into()], &rows(row));
+        let ask = read("AT 1 5", "1 1 ok 1 0 0 1 0 ? - 7").unwrap();
+        let ask = ask[0].as_ref().unwrap();
+        assert!(matches!(ask.what, What::Ask(Event::Tick(row), 7) if row.values[0] == 5));
+        let ask = read("AD 1 9", "1 1 r9 1 0 0 1 0 - - 8").unwrap();
+        assert_eq!(ask[0].as_ref().unwrap().arriving(), Some(8));
+        let commit = read("C 1 18446744073709551615", "1 1 r17 1 0 0 1 0 - -").unwrap();
+        let commit = commit[0].as_ref().unwrap();
+        assert!(matches!(commit.what, What::Commit(u64::MAX)) && !commit.is_ok);
+        for (line, row) in [
+            ("AG 1", "1 1 ok 1 0 0 1 0 ? -"),
+            ("C 1 1", "1 1 ok 1 0 0 1 0 1 - 1"),
+            ("SA 1", "1 1 ok 1 0 0 1 0 - - 1"),
+            ("AC 1 1", "1 1 ok 1 0 0 1 0 - - 1"),
+        ] {
+            assert!(read(line, row).is_err(), "{line}");
         }
     }
 }

@@ -6,6 +6,7 @@ use std::{env, fmt, fs};
 use crate::counts::Counts;
 use crate::demand3::{self, Checked};
 use crate::generator::{self, Script};
+use crate::leaving;
 use crate::played;
 use crate::run::{library, Programs};
 
@@ -71,7 +72,7 @@ impl Tally {
             return Err(format!("not {malformed} malformed lines, as counted"));
         }
         let played = played::played(lines, output)?;
-        played::frames_left(script.host, &played)?;
+        leaving::conditions_kept(script.host, &played)?;
         let checked = demand3::check(&script.group, script.host, lines, output);
         let checked = checked.map_err(|what| format!("demand 3: {what}"))?;
         self.scripts += 1;
@@ -166,7 +167,7 @@ mod tests {
                 assert!((200..=503).contains(&lines.len()));
                 let output = library(&script);
                 let played = played::played(lines, &output).unwrap();
-                played::frames_left(script.host, &played).unwrap();
+                leaving::conditions_kept(script.host, &played).unwrap();
                 demand3::check(&script.group, script.host, lines, &output).unwrap();
             }
         }

@@ -2,14 +2,19 @@
 //! implementation's replicas at once, so that it knows what was sent, by whom
 //! and what came of it.
 
+mod asked_acks;
+mod asked_records;
+mod asks;
+mod commits;
 mod power;
 
 use std::collections::VecDeque;
 
-use second::frame::{self, Frame, ACK, COMMAND_AREA, DECIDE, ESTIMATE, FRAME_AREA};
+use second::frame::{self, Frame, ACK, COMMAND_AREA, DECIDE, ESTIMATE, FRAME_AREA, PROPOSE};
 use second::law::MAX_READINGS;
 use second::reading::{Reading, Row};
 use second::replica::{coordinator, majority, Answer, Areas, Estimate, Heard, Replica, Step};
+use second::tickets::Ticketed;
 
 use crate::counts::Counts;
 use crate::group::Group;
@@ -18,6 +23,8 @@ use crate::played::Host;
 use crate::prng::Prng;
 use crate::single_bits;
 use crate::station::{Station, Waiting};
+pub use asked_acks::AskedAck;
+pub use asks::Asking;
 
 /// How often, of a hundred lines, something out of order follows.
 #[derive(Clone, Copy, Default)]
@@ -76,12 +83,18 @@ pub struct Writer<'a> {
     /// "A stopped box has no further entry."
     pub stopped: Vec<bool>,
     pub stations: Vec<Station>,
+    /// None where no event is asked.
+    pub asking: Option<Asking>,
+    /// Whether the next event is asked, if that is not left to chance.
+    only: Option<bool>,
     group: Group,
     host: Host,
     /// Of a hundred steps, those whose record is stored at once.
     stored_at_once: usize,
     /// Places whose record is stored later, if at all.
     to_store: Vec<usize>,
+    /// Places whose latest ask is committed later, if at all.
+    to_commit: Vec<usize>,
     limit: usize,
     disturbances: Disturbances,
     rows: Rows,
@@ -135,10 +148,13 @@ impl<'a> Writer<'a> {
             pending: VecDeque::new(),
             stopped: vec![false; group.boxes.into()],
             stations: vec![Station::default(); group.boxes.into()],
+            asking: None,
+            only: None,
             group,
             host,
             stored_at_once,
             to_store: Vec::new(),
+            to_commit: Vec::new(),
             limit,
             disturbances,
             rows,
@@ -206,6 +222,10 @@ impl<'a> Writer<'a> {
         self.sent[sent].frame.kind == ACK
     }
 
+    pub fn is_propose(&self, sent: usize) -> bool {
+        self.sent[sent].frame.kind == PROPOSE
+    }
+
     pub fn is_decide(&self, sent: usize) -> bool {
         self.sent[sent].frame.kind == DECIDE
     }
@@ -232,9 +252,14 @@ impl<'a> Writer<'a> {
         if self.is_full() || self.is_out(place) {
             return;
         }
+        self.give_up_alone(place);
+        self.disturb(place);
+    }
+
+    /// A give-up that no disturbance follows.
+    fn give_up_alone(&mut self, place: usize) {
         self.counts.give_ups += 1;
         self.run(place, format!("G {}", place + 1), Replica::give_up);
-        self.disturb(place);
     }
 
     pub fn deliver(&mut self, sent: usize, place: usize) {
@@ -269,6 +294,7 @@ impl<'a> Writer<'a> {
             line: self.lines.len() + 1,
             unsent: &self.unsent,
             without_record: &self.without_record(),
+            without_ask: &self.without_ask(),
         };
         let line = malformed::line(self.prng, &place);
         self.counts.malformed += 1;
@@ -276,7 +302,8 @@ impl<'a> Writer<'a> {
         self.unsent.push(self.lines.len());
     }
 
-    /// Writes the line of an event and runs it.
+    /// Writes the line of an event, asked or not, and runs it. Gives what the
+    /// step wrote, if it was made.
     fn run(
         &mut self,
         place: usize,
@@ -288,26 +315,46 @@ impl<'a> Writer<'a> {
             frame: &mut frame,
             command: &mut command,
         };
-        let (replica, step) = event(self.replicas[place], areas);
-        self.replicas[place] = replica;
+        if self.is_asked_first() {
+            return self.ask(place, text, areas, event);
+        }
+        let was_asked = self.stations[place].is_asked();
+        let (held, step) = self.take_held(place).step(areas, event);
+        self.put_back(place, held);
         self.lines.push(text.into_bytes());
         self.count_step(place, &step);
-        let frame = match step.frame_length {
-            0 => {
-                self.unsent.push(self.lines.len());
-                None
-            }
-            length => Some(self.keep(&frame[..length])),
-        };
+        self.counts.asks.void_by_step += usize::from(was_asked && step.answer == Answer::Ok);
         let waiting = Waiting {
-            frame,
-            decided: (step.command_length > 0).then_some(replica.period),
+            frame: self.made_frame(&frame[..step.frame_length]),
+            decided: (step.command_length > 0).then_some(self.replicas[place].period),
         };
         match self.host {
             Host::Plain => self.leave(waiting),
             Host::Storing => self.hold(place, waiting, step.answer),
         }
         step
+    }
+
+    /// The replica with its tickets, out of the box.
+    fn take_held(&mut self, place: usize) -> Ticketed {
+        Ticketed {
+            replica: self.replicas[place],
+            tickets: std::mem::take(&mut self.stations[place].tickets),
+        }
+    }
+
+    fn put_back(&mut self, place: usize, held: Ticketed) {
+        self.replicas[place] = held.replica;
+        self.stations[place].tickets = held.tickets;
+    }
+
+    /// The frame that the last line made, if it made one.
+    fn made_frame(&mut self, bytes: &[u8]) -> Option<usize> {
+        if bytes.is_empty() {
+            self.unsent.push(self.lines.len());
+            return None;
+        }
+        Some(self.keep(bytes))
     }
 
     /// Keeps a frame that was made.
@@ -466,9 +513,12 @@ impl<'a> Writer<'a> {
             Answer::Ignored => self.counts.ignored += 1,
             Answer::Refused(refusal) => self.counts.refused[usize::from(refusal.number())] += 1,
         }
-        if step.command_length == 0 {
-            return;
+        if step.command_length > 0 {
+            self.count_decision(place);
         }
+    }
+
+    fn count_decision(&mut self, place: usize) {
         let replica = &self.replicas[place];
         self.counts.decisions += 1;
         self.counts.decisions_above_view_0 += usize::from(replica.view > 0);

@@ -4,7 +4,9 @@
 use crate::words::{without_comments, Words};
 use crate::{Argument, Constant, Declared, Function, Kind, Parameter, Wrapper};
 
-const NUMBERS: [&str; 5] = ["size_t", "uint8_t", "uint32_t", "int32_t", "int64_t"];
+const NUMBERS: [&str; 6] = [
+    "size_t", "uint8_t", "uint32_t", "uint64_t", "int32_t", "int64_t",
+];
 
 /// What a header declares, each in the header's order.
 pub fn declared(header: &str) -> Result<Declared, String> {

@@ -111,6 +111,7 @@ fn number(words: &mut Words) -> Result<String, String> {
         "usize" => "size_t",
         "u8" => "uint8_t",
         "u32" => "uint32_t",
+        "u64" => "uint64_t",
         "i32" => "int32_t",
         "i64" => "int64_t",
         _ => return Err(format!("unexpected type '{name}'")),

@@ -61,7 +61,7 @@ fn is_found(name: &str, old: &str, new: &str) {
 #[test]
 fn the_header_declares_what_the_crate_exports() {
     let exports = exports();
-    assert_eq!(exports.len(), 14);
+    assert_eq!(exports.len(), 22);
     let declared = declared(&header()).expect("prototypes");
     assert_eq!(
         differences(&exports, &declared.functions),
@@ -79,7 +79,7 @@ fn the_declarations_for_rust_are_what_the_crate_exports() {
 
 /// Where each constant stands in the crates; `#` is its number. The kind of a
 /// missing reading stands nowhere: it is any but the two others.
-const CONSTANTS: [(&str, &str, &str); 36] = [
+const CONSTANTS: [(&str, &str, &str); 38] = [
     ("WINDER_VERSION", "winder/src/version.rt", "{\n    #\n}"),
     ("WINDER_STATES_MAX", "frame/src/lib.rt", "if # < n {"),
     ("WINDER_READINGS_MAX", "frame/src/lib.rt", "m <= #\n"),
@@ -119,6 +119,11 @@ const CONSTANTS: [(&str, &str, &str); 36] = [
         "WINDER_MISSED_MAX",
         "records/src/returning.rt",
         "MOST_MISSED: u32 = #;",
+    ),
+    (
+        "WINDER_TICKETED",
+        "ticketed/src/lengths.rt",
+        "TICKETED: usize = #;",
     ),
     (
         "WINDER_IGNORED",
@@ -224,6 +229,11 @@ const CONSTANTS: [(&str, &str, &str); 36] = [
         "records/src/returning.rt",
         "Answer::Refused(#),",
     ),
+    (
+        "WINDER_REFUSED_TICKET",
+        "ticketed/src/committing.rt",
+        "return Answer::Refused(#);",
+    ),
 ];
 
 #[test]
@@ -266,6 +276,7 @@ fn the_constants_for_rust_are_those_of_the_header() {
         ("PAGE_AREA", "usize"),
         ("RECORD", "usize"),
         ("MISSED_MAX", "u32"),
+        ("TICKETED", "usize"),
         ("IGNORED", "u32"),
     ] {
         let value = constant(&format!("WINDER_{name}"));
@@ -353,6 +364,11 @@ fn exchanged_parameters_are_found() {
         "*command,\n    size_t command_length,\n    uint8_t *frame,\n    size_t frame_length",
     );
     is_found("winder_give_up", areas, exchanged);
+    let (areas, exchanged) = (
+        "*area,\n    size_t area_length,\n    uint8_t *frame,\n    size_t frame_length",
+        "*frame,\n    size_t frame_length,\n    uint8_t *area,\n    size_t area_length",
+    );
+    is_found("winder_ask_arrive", areas, exchanged);
 }
 
 #[test]
@@ -380,6 +396,7 @@ fn another_size_is_found() {
     is_found("winder_convert_single", "*value", "value[4]");
     is_found("winder_make", "start[6]", "start[4]");
     is_found("winder_arrive", "lengths[2]", "*lengths");
+    is_found("winder_ask_tick", "ticket[1]", "*ticket");
 }
 
 #[test]
@@ -391,6 +408,7 @@ fn a_missing_const_is_found() {
         "uint8_t *bytes",
     );
     is_found("winder_return", "const uint8_t *stored", "uint8_t *stored");
+    is_found("winder_tickets", "const uint8_t *", "uint8_t *");
 }
 
 #[test]
@@ -411,6 +429,8 @@ fn another_type_is_found() {
     is_found("winder_convert_single", "uint32_t bits", "int32_t bits");
     is_found("winder_return", "uint32_t missed", "size_t missed");
     is_found("winder_make", "uint8_t own", "size_t own");
+    is_found("winder_commit", "uint64_t ticket", "uint32_t ticket");
+    is_found("winder_ask_tick", "uint64_t ticket", "int64_t ticket");
 }
 
 #[test]

@@ -40,9 +40,7 @@ pub fn tick(
     areas: Areas,
     lengths: &mut [usize; 2],
 ) -> u32 {
-    let row: Row = std::array::from_fn(|j| reading(kinds[j], bits[j]));
-    let event = |replica: Replica, areas: Areas| replica.tick(&row, areas);
-    step(record, areas, lengths, event)
+    step(record, areas, lengths, tick_of(kinds, bits))
 }
 
 /// "Give up the view."
@@ -66,6 +64,15 @@ pub fn copy(record: &[u8], area: &mut [u8]) -> u32 {
 /// area; refuses by 15, then by 5 an area under 616 bytes, then by 16.
 pub fn return_to(record: &[u8], missed: u32, area: &mut [u8]) -> u32 {
     answer_of(returned(record, missed, area))
+}
+
+/// The tick whose row is handed as kinds and bits.
+pub(crate) fn tick_of(
+    kinds: &[u8; MAX_READINGS],
+    bits: &[u32; MAX_READINGS],
+) -> impl FnOnce(Replica, Areas) -> (Replica, Step) {
+    let row: Row = std::array::from_fn(|j| reading(kinds[j], bits[j]));
+    move |replica, areas| replica.tick(&row, areas)
 }
 
 /// A reading of its kind and bits: of a count those of an i32 in two's
@@ -92,11 +99,7 @@ fn step(
     if step.answer != Answer::Ignored || !planted(Fault::LengthsLeft) {
         *lengths = [step.frame_length, step.command_length];
     }
-    match step.answer {
-        Answer::Ok => DONE,
-        Answer::Ignored => IGNORED,
-        Answer::Refused(refusal) => refusal.number().into(),
-    }
+    number_of(step.answer)
 }
 
 /// "the record's reading, the step, the record's writing"
@@ -153,7 +156,16 @@ fn read_for(record: &[u8], area: &[u8]) -> Result<Replica, Refusal> {
     Ok(replica)
 }
 
-fn answer_of(done: Result<(), Refusal>) -> u32 {
+/// The number of an event's answer.
+pub(crate) fn number_of(answer: Answer) -> u32 {
+    match answer {
+        Answer::Ok => DONE,
+        Answer::Ignored => IGNORED,
+        Answer::Refused(refusal) => refusal.number().into(),
+    }
+}
+
+pub(crate) fn answer_of(done: Result<(), Refusal>) -> u32 {
     match done {
         Ok(()) => DONE,
         Err(refusal) => refusal.number().into(),

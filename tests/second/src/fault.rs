@@ -208,6 +208,41 @@ pub enum Fault {
     PresentReturned,
     /// A box of the rig that has stored a record stores no other.
     SecondStoreDropped,
+    /// An ask makes its step.
+    AskSteps,
+    /// The ticket of an ask that was ignored or refused can be committed, by
+    /// which nothing changes.
+    IgnoredCommitted,
+    /// A ticket that a newer ask or a step made void is committed all the
+    /// same. Records with tickets have no place for what such a commit would
+    /// need, so it shows where tickets are held by value.
+    VoidTaken,
+    /// A ticket is committed again.
+    CommittedTwice,
+    /// Tickets go on after a return; beside a record they count from 2.
+    TicketsGoOn,
+    /// An ask after the largest ticket keeps the earlier one open.
+    LargestKeeps,
+    /// A step that is ignored or refused voids the ticket.
+    RefusedStepVoids,
+    /// An ask that is ignored or refused keeps the earlier ticket open.
+    RefusedAskKeeps,
+    /// A step made does not void the ticket.
+    StepKeeps,
+    /// An ask gives the record of the replica before the step.
+    UnsteppedRecord,
+    /// A record area of 615 bytes is taken by an ask, and gets as many bytes
+    /// of the record.
+    ShortRecordTaken,
+    /// While a ticket can be committed, any ticket is taken for it.
+    LatestUnread,
+    /// Bytes 619 to 623 of a replica with tickets are not looked at.
+    TicketLayoutUnread,
+    /// A replica with tickets whose ticket 0 can be committed is taken.
+    OpenZeroTaken,
+    /// What the step leaves of a ticket that can be committed is not looked at
+    /// in a replica with tickets.
+    PendingUnread,
 }
 
 /// The faults that scripts must find, with their names in the environment
@@ -348,6 +383,29 @@ pub const STORE_NAMES: [(&str, Fault); 2] = [
     ("second_store_dropped", Fault::SecondStoreDropped),
 ];
 
+/// The faults of tickets that scripts with `A`, `C` and `SA` must find.
+pub const TICKET_NAMES: [(&str, Fault); 10] = [
+    ("ask_steps", Fault::AskSteps),
+    ("ignored_committed", Fault::IgnoredCommitted),
+    ("void_taken", Fault::VoidTaken),
+    ("committed_twice", Fault::CommittedTwice),
+    ("tickets_go_on", Fault::TicketsGoOn),
+    ("refused_step_voids", Fault::RefusedStepVoids),
+    ("refused_ask_keeps", Fault::RefusedAskKeeps),
+    ("step_keeps", Fault::StepKeeps),
+    ("unstepped_record", Fault::UnsteppedRecord),
+    ("latest_unread", Fault::LatestUnread),
+];
+
+/// The faults of tickets that only calls on replicas with tickets can find.
+pub const TICKET_CALL_NAMES: [(&str, Fault); 5] = [
+    ("largest_keeps", Fault::LargestKeeps),
+    ("short_record_taken", Fault::ShortRecordTaken),
+    ("ticket_layout_unread", Fault::TicketLayoutUnread),
+    ("open_zero_taken", Fault::OpenZeroTaken),
+    ("pending_unread", Fault::PendingUnread),
+];
+
 static PLANTED: OnceLock<Fault> = OnceLock::new();
 
 /// Plants the fault that the environment names. Unset or empty: none. A name
@@ -362,6 +420,7 @@ pub fn plant_from_environment() -> Result<(), String> {
     let of_requests = of_requests.chain(&PAGE_NAMES);
     let of_requests = of_requests.chain(&RECORD_NAMES).chain(&CALL_NAMES);
     let of_requests = of_requests.chain(&STORE_NAMES);
+    let of_requests = of_requests.chain(&TICKET_NAMES).chain(&TICKET_CALL_NAMES);
     let mut known = NAMES.iter().chain(of_calls).chain(of_requests);
     let (_, fault) = known
         .find(|(known, _)| name == *known)

@@ -137,11 +137,17 @@ mod tests {
             "r1\n",
             "r12\n",
             "r16\n",
+            "r17\n",
             "1 bad\n500 bad\n",
             "no who answer k v vb kb x frame command\n",
             "no who answer k v vb kb x frame command\n1 1 ignored 0 0 0 0 0 - -\n",
             "1 1 r1 0 0 0 0 0 - -\n1 1 r12 0 0 0 0 0 - -",
             "1 1 r16 0 0 0 0 0 - -\n1 1 r16 7 0 0 0 0 1 5",
+            "1 1 r17 7 0 0 0 0 - -\n1 1 r17 7 0 0 0 0 1 5",
+            // Asks, whatever their answer is, also with another number of
+            // values.
+            "1 1 ok 7 0 0 0 0 ? 5 1\n1 1 ok 7 0 0 0 0 - 1,2 18446744073709551615\n",
+            "1 1 ignored 7 0 0 0 0 - - 0\n1 1 r9 7 0 0 0 0 ? 5* 3",
             // Nothing relates two fields of a line.
             "1 1 ignored 0 0 0 0 0 500 5\n1 1 r9 0 0 0 0 0 - 1,2,3*\n",
         ];
@@ -190,7 +196,7 @@ mod tests {
             "r13",
             "r14",
             "r15",
-            "r17",
+            "r18",
             "r160",
             "r016",
             "r01",

@@ -15,5 +15,6 @@ pub use read::read;
 pub use returning::return_from;
 pub use write::write;
 
+pub(crate) use layout::PERIOD_AT as HELD_AT;
 pub(crate) use returning::come_back;
 pub(crate) use write::check_area;

@@ -46,6 +46,9 @@ pub enum Refusal {
     /// Document 02, L4: "missed count over 10,000, or a period or view that
     /// would pass its largest value"
     Missed = 16,
+    /// Document 02, L6: "at commit: 17 ticket not the latest ask's, void or
+    /// committed, or that ask ignored or refused"
+    Ticket = 17,
 }
 
 impl Refusal {

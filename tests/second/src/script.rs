@@ -1,18 +1,20 @@
 //! Document 01, "The bench": scripts of events for a group of boxes, read
 //! from lines and answered line by line. `rig` is the same for any group, and
-//! takes readings as document 02's L1 has them, and boxes that stop and return
-//! as its L4 has them.
+//! takes readings as document 02's L1 has them, boxes that stop and return as
+//! its L4 has them, and asks and commits as its L6 has them.
+
+mod played;
+mod station;
 
 use std::io::{self, BufRead, Write};
 use std::ops::RangeInclusive;
+use std::str::FromStr;
 
-use crate::fault::{planted, Fault};
-use crate::frame::{command_values, COMMAND_AREA, FRAME_AREA};
 use crate::law::{self, Settings, MAX_READINGS};
 use crate::reading::{Reading, Row};
-use crate::record;
 use crate::refusal::Refusal;
-use crate::replica::{check_group, Answer, Areas, Replica, Step};
+use crate::replica::{check_group, Replica};
+use station::{Event, Station, What};
 
 /// "It reads at most 500 lines"
 pub(crate) const MOST_LINES: usize = 500;
@@ -49,8 +51,8 @@ pub fn bench(mut input: impl BufRead, mut output: impl Write) -> io::Result<()> 
 }
 
 /// The program `rig`: the first line names the group, the rest is as the
-/// bench's, but that a reading may be a single, and that a box may store its
-/// record and return from it.
+/// bench's, but that a reading may be a single, that a box may store its record
+/// and return from it, and that it may be asked an event and commit it.
 pub fn rig(mut input: impl BufRead, mut output: impl Write) -> io::Result<()> {
     let first = next_line(&mut input)?.unwrap_or_default();
     match rig_group(&first) {
@@ -145,8 +147,17 @@ pub(crate) fn words(line: &[u8]) -> impl Iterator<Item = &[u8]> {
     line.split(|&byte| byte == b' ')
 }
 
-/// "Decimal without needless zeros or a plus sign, zero without a minus"
 pub(crate) fn number(word: &[u8]) -> Option<i64> {
+    decimal(word)
+}
+
+/// Changes: "decimal, 0 to 18446744073709551615".
+pub(crate) fn ticket_number(word: &[u8]) -> Option<u64> {
+    decimal(word)
+}
+
+/// "Decimal without needless zeros or a plus sign, zero without a minus"
+fn decimal<Number: FromStr>(word: &[u8]) -> Option<Number> {
     let digits = word.strip_prefix(b"-").unwrap_or(word);
     let plain = digits.iter().all(u8::is_ascii_digit);
     let needless_zero_or_sign = digits.first() == Some(&b'0') && word.len() > 1;
@@ -196,34 +207,19 @@ fn next_line(input: &mut impl BufRead) -> io::Result<Option<Vec<u8>>> {
     Ok(Some(line))
 }
 
-/// An event at a box; boxes are counted from 0 here.
-struct Event {
+/// What a line tells which box to do; boxes are counted from 0 here.
+struct Order {
     place: usize,
     what: What,
 }
 
-enum What {
-    Tick(Row),
-    GiveUp,
-    Deliver(Vec<u8>),
-    /// The record is stored.
-    Store,
-    /// The box comes back from a record.
-    Return {
-        record: Vec<u8>,
-        missed: u32,
-    },
-}
-
-/// The boxes, the record that each stored last, and the frame that each line
-/// up to now sent.
+/// The boxes, and the frame that each line up to now sent.
 #[derive(Debug, PartialEq, Eq)]
 struct Group {
-    replicas: Vec<Replica>,
-    stored: Vec<Option<Vec<u8>>>,
+    stations: Vec<Station>,
     sent: Vec<Option<Vec<u8>>>,
-    /// Whether a reading may be a single and a box may store its record and
-    /// return: on the rig, while the bench is as it was.
+    /// Whether a reading may be a single, and a box may store its record and
+    /// return, be asked and commit: on the rig, while the bench is as it was.
     is_rig: bool,
 }
 
@@ -232,10 +228,9 @@ impl Group {
     /// lines as the bench's.
     fn new(boxes: u8, settings: Settings) -> Result<Group, Refusal> {
         check_group(boxes, 1)?;
-        let replicas = (1..=boxes).map(|own| Replica::new(boxes, own, settings));
+        let making = |own| Replica::new(boxes, own, settings).map(Station::new);
         Ok(Group {
-            replicas: replicas.collect::<Result<_, _>>()?,
-            stored: vec![None; boxes.into()],
+            stations: (1..=boxes).map(making).collect::<Result<_, _>>()?,
             sent: Vec::new(),
             is_rig: false,
         })
@@ -255,96 +250,51 @@ impl Group {
     /// unsent frames print the line number, a space and `bad`".
     fn answer(&mut self, line: &[u8]) -> String {
         let line_number = self.sent.len() + 1;
-        let Some(event) = self.parse(line) else {
+        let Some(order) = self.parse(line) else {
             self.sent.push(None);
             return format!("{line_number} {BAD}");
         };
-        let mut frame = [0; FRAME_AREA];
-        let mut command = [0; COMMAND_AREA];
-        let areas = Areas {
-            frame: &mut frame,
-            command: &mut command,
-        };
-        let step = self.take(&event, areas);
-        let frame = &frame[..step.frame_length];
-        let command = &command[..step.command_length];
-        self.sent.push((!frame.is_empty()).then(|| frame.to_vec()));
-        self.row(line_number, event.place, step.answer, command)
+        let played = self.stations[order.place].play(&order.what);
+        self.sent.push(played.sent());
+        played.row(line_number)
     }
 
-    /// Hands the event to its box and keeps the replica that comes back.
-    fn take(&mut self, event: &Event, areas: Areas) -> Step {
-        let replica = self.replicas[event.place];
-        let (replica, step) = match &event.what {
-            What::Tick(row) => replica.tick(row, areas),
-            What::GiveUp => replica.give_up(areas),
-            What::Deliver(bytes) => replica.arrive(bytes, areas),
-            What::Store => (replica, quiet_step(self.store(event.place))),
-            What::Return { record, missed } => come_back(replica, record, *missed),
-        };
-        self.replicas[event.place] = replica;
-        step
-    }
-
-    /// Changes: "the record of box r's replica is stored".
-    fn store(&mut self, place: usize) -> Result<(), Refusal> {
-        if planted(Fault::SecondStoreDropped) && self.stored[place].is_some() {
-            return Ok(());
-        }
-        self.stored[place] = Some(record_of(&self.replicas[place])?);
-        Ok(())
-    }
-
-    /// "Fields printed: line, box, answer, period, view, base view, base
-    /// period, state, line number if a frame was sent, command; `-` stands
-    /// where there is no frame or command."
-    fn row(&self, line_number: usize, place: usize, answer: Answer, command: &[u8]) -> String {
-        let replica = &self.replicas[place];
-        let answer = match answer {
-            Answer::Ok => "ok".to_string(),
-            Answer::Ignored => "ignored".to_string(),
-            Answer::Refused(refusal) => refusal.to_string(),
-        };
-        let state = &replica.estimate.state[..replica.settings.n.into()];
-        let frame = match self.sent.last() {
-            Some(Some(_)) => line_number.to_string(),
-            _ => "-".to_string(),
-        };
-        let command = match command {
-            [] => "-".to_string(),
-            bytes => commas(&command_values(bytes)),
-        };
-        format!(
-            "{line_number} {} {answer} {} {} {} {} {} {frame} {command}",
-            replica.own,
-            replica.period,
-            replica.view,
-            replica.base_view,
-            replica.estimate.base_period,
-            commas(state),
-        )
-    }
-
-    /// `T r y1 .. ym`, `G r` or `D r f`, and on the rig `S r` or `R r k`; none
-    /// for any other line.
-    fn parse(&self, line: &[u8]) -> Option<Event> {
+    /// `T r y1 .. ym`, `G r` or `D r f`, and on the rig any of these behind an
+    /// `A`, `C r t`, `S r`, `SA r` or `R r k`; none for any other line.
+    fn parse(&self, line: &[u8]) -> Option<Order> {
         let mut words = words(line);
         let letter = words.next()?;
-        let place = number_in(words.next()?, 1..=self.replicas.len())? - 1;
+        let place = number_in(words.next()?, 1..=self.stations.len())? - 1;
         let what = match letter {
-            b"T" => What::Tick(self.parse_row(&mut words)?),
-            b"G" => What::GiveUp,
-            b"D" => What::Deliver(self.sent_frame(words.next()?)?),
+            b"T" | b"G" | b"D" => What::Step(self.parse_event(letter, &mut words)?),
+            b"AT" | b"AG" | b"AD" if self.is_rig => {
+                What::Ask(self.parse_event(&letter[1..], &mut words)?)
+            }
+            b"C" if self.is_rig => What::Commit(ticket_number(words.next()?)?),
             b"S" if self.is_rig => What::Store,
+            b"SA" if self.is_rig => What::StoreAsked(self.stations[place].asked_record()?),
             b"R" if self.is_rig => self.parse_return(place, words.next()?)?,
             _ => return None,
         };
-        words.next().is_none().then_some(Event { place, what })
+        words.next().is_none().then_some(Order { place, what })
+    }
+
+    /// What stands behind the box of an event with this letter.
+    fn parse_event<'a>(
+        &self,
+        letter: &[u8],
+        words: &mut impl Iterator<Item = &'a [u8]>,
+    ) -> Option<Event> {
+        match letter {
+            b"T" => self.parse_row(words).map(Event::Tick),
+            b"G" => Some(Event::GiveUp),
+            _ => self.sent_frame(words.next()?).map(Event::Deliver),
+        }
     }
 
     /// One word for each reading below m; a script has none beyond.
     fn parse_row<'a>(&self, words: &mut impl Iterator<Item = &'a [u8]>) -> Option<Row> {
-        let m = self.replicas.first()?.settings.m;
+        let m = self.stations.first()?.held.replica.settings.m;
         let mut row = [Reading::Missing; MAX_READINGS];
         for reading in &mut row[..m.into()] {
             *reading = self.parse_reading(words.next()?)?;
@@ -366,7 +316,7 @@ impl Group {
     /// where it has stored none".
     fn parse_return(&self, place: usize, word: &[u8]) -> Option<What> {
         let missed = u32::try_from(number(word)?).ok()?;
-        let record = self.stored[place].clone()?;
+        let record = self.stations[place].stored_record()?;
         Some(What::Return { record, missed })
     }
 
@@ -375,39 +325,6 @@ impl Group {
         let line_number = number_in(word, 1..=self.sent.len())?;
         self.sent[line_number - 1].clone()
     }
-}
-
-fn record_of(replica: &Replica) -> Result<Vec<u8>, Refusal> {
-    let mut record = vec![0; record::LENGTH];
-    record::write(replica, &mut record)?;
-    Ok(record)
-}
-
-/// Changes: "box r comes back from the record that it stored last"; "`r16`
-/// where returning refuses, and then the box stays as it was".
-fn come_back(present: Replica, record: &[u8], missed: u32) -> (Replica, Step) {
-    let returned = if planted(Fault::PresentReturned) {
-        record_of(&present).and_then(|record| record::return_from(&record, missed))
-    } else {
-        record::return_from(record, missed)
-    };
-    (
-        returned.unwrap_or(present),
-        quiet_step(returned.map(|_| ())),
-    )
-}
-
-/// Changes: "frame and command are `-`".
-fn quiet_step(done: Result<(), Refusal>) -> Step {
-    Step::silent(match done {
-        Ok(()) => Answer::Ok,
-        Err(refusal) => Answer::Refused(refusal),
-    })
-}
-
-fn commas(values: &[i32]) -> String {
-    let words: Vec<String> = values.iter().map(i32::to_string).collect();
-    words.join(",")
 }
 
 #[cfg(test)]
@@ -858,7 +775,7 @@ mod tests {
     fn tables_of_the_rig_are_read_row_by_row() {
         let line = b"rig 4 2 1 3 1 2 3 4 5 6 7 8 9 10 11 12 13 14 15 16 17 18 19 20 21 22";
         let group = rig_group(line).unwrap();
-        let settings = group.replicas[3].settings;
+        let settings = group.stations[3].held.replica.settings;
         assert_eq!((settings.n, settings.m, settings.p), (2, 1, 3));
         assert_eq!(settings.a[0][..2], [1, 2]);
         assert_eq!(settings.a[1][..2], [3, 4]);

@@ -2,8 +2,10 @@
 //! its record", against the calls on replicas; and the faults of the former.
 
 mod planted;
+mod random;
 
 use planted::Case;
+use random::Random;
 use second::calls::{self, DONE, IGNORED};
 use second::fault;
 use second::frame::{COMMAND_AREA, FRAME_AREA};
@@ -345,17 +347,7 @@ fn returning_writes_the_record_of_the_replica_that_returns() {
 
 // Histories.
 
-/// A generator by shifts.
-struct Random(u64);
-
 impl Random {
-    fn below(&mut self, bound: usize) -> usize {
-        self.0 ^= self.0 << 13;
-        self.0 ^= self.0 >> 7;
-        self.0 ^= self.0 << 17;
-        (self.0 >> 20) as usize % bound
-    }
-
     fn settings(&mut self) -> Settings {
         let mut settings = Settings {
             n: 1 + self.below(6) as u8,
@@ -421,7 +413,7 @@ impl Random {
 /// replica of any history and reading it gives that very replica.
 #[test]
 fn calls_on_records_are_those_on_replicas() {
-    let mut random = Random(0x9E37_79B9_7F4A_7C15);
+    let mut random = Random::new();
     let mut answers = [0; 3];
     let mut bests = 0;
     for round in 0..600 {

@@ -1,14 +1,16 @@
-//! Histories of document 02's L4 with records as values: what a host stores,
-//! in which order and from which record a box returns, is an entry of its own,
-//! so that each of the host's conditions can be broken alone.
+//! Histories of document 02's L4 and L6 with records as values: what a host
+//! stores, in which order and from which record a box returns, is an entry of
+//! its own, so that each of the host's conditions can be broken alone.
+
+mod asks;
 
 use std::collections::BTreeMap;
 
 use second::frame::{command_values, COMMAND_AREA, FRAME_AREA};
 use second::law::MAX_READINGS;
-use second::reading::{convert_row, Reading};
+use second::reading::{convert_row, Reading, Row};
 use second::record::{self, LENGTH};
-use second::replica::{Answer, Areas, Replica, Step};
+use second::replica::{Answer, Areas, Replica};
 
 use crate::demand3::Seen;
 use crate::group::Group;
@@ -26,6 +28,9 @@ pub enum Condition {
     /// What was made before a stop and not stored by then is gone: "steps
     /// between that record and the stop .. don't count".
     GoneAtStop,
+    /// "in L4 a record of the unstepped replica counts as made before the
+    /// ask's"
+    UnsteppedFirst,
 }
 
 /// One entry at the box at a place. Entries are known by their numbers, which
@@ -40,17 +45,29 @@ pub struct Entry {
 
 #[derive(Clone, Copy, Debug, PartialEq, Eq)]
 pub enum What {
-    Tick(Option<i32>),
-    GiveUp,
-    /// The frame that this entry made arrives.
-    Arrive(usize),
-    /// The record that this entry made is stored. Its command leaves.
+    Event(Event),
+    /// The event is asked.
+    Ask(Event),
+    /// The ask of this entry is committed.
+    Commit(usize),
+    /// A record of the replica as it is is made once more.
+    Record,
+    /// The record that this entry made is stored. Its command leaves, unless
+    /// it was asked for and not committed.
     Store(usize),
     /// The box returns from the record that this entry made.
     Return {
         record: usize,
         missed: u32,
     },
+}
+
+#[derive(Clone, Copy, Debug, PartialEq, Eq)]
+pub enum Event {
+    Tick(Option<i32>),
+    GiveUp,
+    /// The frame that this entry made arrives.
+    Arrive(usize),
 }
 
 /// What an entry made.
@@ -61,6 +78,12 @@ pub struct Made {
     pub frame: Vec<u8>,
     command: Option<Vec<i32>>,
     pub is_stored: bool,
+    /// Whether it was asked for, and has not been committed.
+    is_asked: bool,
+    /// The period whose decided state its step shows.
+    shown: Option<u32>,
+    /// The ask before which a record of the replica as it was counts as made.
+    before: Option<usize>,
 }
 
 impl Made {
@@ -73,6 +96,9 @@ impl Made {
             frame: Vec::new(),
             command: None,
             is_stored: false,
+            is_asked: false,
+            shown: None,
+            before: None,
         }
     }
 }
@@ -83,6 +109,8 @@ pub struct Station {
     past: Past,
     /// The entry that made the replica.
     pub present: usize,
+    /// The ask that can be committed.
+    pub open: Option<usize>,
     /// The records stored, by the entries that made them; the last is the one
     /// stored last.
     pub stored: Vec<usize>,
@@ -108,6 +136,7 @@ impl History {
             replica: fresh(own),
             past: Past::default(),
             present: own.into(),
+            open: None,
             stored: Vec::new(),
             since: 0,
         };
@@ -129,73 +158,84 @@ impl History {
     /// event, whether the answer is ok. If not, nothing has occurred.
     pub fn enter(&mut self, entry: &Entry) -> bool {
         match entry.what {
-            What::Tick(reading) => self.tick(entry, reading),
-            What::GiveUp => self.step(entry, Replica::give_up),
-            What::Arrive(number) => self.arrive(entry, number),
+            What::Event(event) => self.step(entry, event),
+            What::Ask(event) => self.ask(entry, event),
+            What::Commit(ask) => self.commit(entry.place, ask),
+            What::Record => self.record(entry),
             What::Store(number) => self.store(entry.place, number),
             What::Return { record, missed } => self.come_back(entry, record, missed),
         }
     }
 
-    fn tick(&mut self, entry: &Entry, reading: Option<i32>) -> bool {
-        let mut row = [Reading::Missing; MAX_READINGS];
-        row[0] = reading.map_or(Reading::Missing, Reading::Count);
-        if !self.step(entry, |replica, areas| replica.tick(&row, areas)) {
+    fn step(&mut self, entry: &Entry, event: Event) -> bool {
+        let Some(made) = self.called(entry.place, event) else {
             return false;
-        }
-        let station = &mut self.stations[entry.place];
-        let shown = station.past.tick(convert_row(&row));
-        let made = self.made.get_mut(&entry.number).expect("just made");
-        made.past = station.past.clone();
-        let state = station.replica.estimate.state;
-        self.show(shown, &state);
+        };
+        self.made.insert(entry.number, made);
+        self.become_made(entry.number);
         true
     }
 
-    fn step(
-        &mut self,
-        entry: &Entry,
-        event: impl FnOnce(Replica, Areas) -> (Replica, Step),
-    ) -> bool {
+    /// The box is now what this entry made.
+    fn become_made(&mut self, number: usize) {
+        let made = &self.made[&number];
+        let (shown, state) = (made.shown, made.replica.estimate.state);
+        let station = &mut self.stations[made.place];
+        station.replica = made.replica;
+        station.past = made.past.clone();
+        station.present = number;
+        station.open = None;
+        self.show(shown, &state);
+    }
+
+    /// What an event at a box makes, if there is what it names and the answer
+    /// is ok. A frame that arrives must have left.
+    fn called(&mut self, place: usize, event: Event) -> Option<Made> {
         let (mut frame, mut command) = ([0; FRAME_AREA], [0; COMMAND_AREA]);
         let areas = Areas {
             frame: &mut frame,
             command: &mut command,
         };
-        let station = &mut self.stations[entry.place];
-        let (replica, step) = event(station.replica, areas);
+        let station = &self.stations[place];
+        let (replica, step) = match event {
+            Event::Tick(reading) => station.replica.tick(&row(reading), areas),
+            Event::GiveUp => station.replica.give_up(areas),
+            Event::Arrive(number) => station.replica.arrive(self.frame_of(number)?, areas),
+        };
         if step.answer != Answer::Ok {
-            return false;
+            return None;
         }
-        station.replica = replica;
-        station.present = entry.number;
-        let made = Made {
+        let mut made = Made {
             frame: frame[..step.frame_length].to_vec(),
             command: match step.command_length {
                 0 => None,
                 length => Some(command_values(&command[..length])),
             },
-            ..Made::silent(entry.place, replica, station.past.clone())
+            ..Made::silent(place, replica, station.past.clone())
         };
-        self.made.insert(entry.number, made);
-        true
+        match event {
+            Event::Tick(reading) => made.shown = made.past.tick(convert_row(&row(reading))),
+            Event::GiveUp => {}
+            Event::Arrive(number) => self.note_arrival(number),
+        }
+        Some(made)
     }
 
-    fn arrive(&mut self, entry: &Entry, number: usize) -> bool {
-        let Some(made) = self.made.get(&number).filter(|made| !made.frame.is_empty()) else {
-            return false;
-        };
-        let (place, is_stored, frame) = (made.place, made.is_stored, made.frame.clone());
-        if !self.step(entry, |replica, areas| replica.arrive(&frame, areas)) {
-            return false;
-        }
-        if !is_stored {
+    /// The frame that an entry made, but for one not committed.
+    fn frame_of(&self, number: usize) -> Option<&[u8]> {
+        let made = self.made.get(&number)?;
+        let is_there = !made.frame.is_empty() && !made.is_asked;
+        is_there.then_some(&made.frame[..])
+    }
+
+    fn note_arrival(&mut self, number: usize) {
+        let made = &self.made[&number];
+        if !made.is_stored {
             self.broken.push(Condition::StoredFirst);
         }
-        if !is_stored && number < self.stations[place].since {
+        if !made.is_stored && number < self.stations[made.place].since {
             self.broken.push(Condition::GoneAtStop);
         }
-        true
     }
 
     /// Whether the frame that an entry made would change the box at a place.
@@ -209,32 +249,54 @@ impl History {
     }
 
     fn store(&mut self, place: usize, number: usize) -> bool {
-        let Some(made) = self
-            .made
-            .get_mut(&number)
-            .filter(|made| made.place == place)
-        else {
+        let Some(made) = self.made.get(&number).filter(|made| made.place == place) else {
             return false;
         };
-        let station = &mut self.stations[place];
-        if station.stored.iter().any(|&stored| stored > number) {
-            self.broken.push(Condition::InOrder);
+        let is_asked = made.is_asked;
+        let condition = match made.before {
+            Some(_) => Condition::UnsteppedFirst,
+            None => Condition::InOrder,
+        };
+        let order = self.order(number);
+        let mut stored = self.stations[place].stored.iter();
+        if stored.any(|&stored| self.order(stored) > order) {
+            self.broken.push(condition);
         }
+        let station = &mut self.stations[place];
         if number < station.since {
             self.broken.push(Condition::GoneAtStop);
         }
         station.stored.push(number);
-        made.is_stored = true;
-        if let Some(command) = &made.command {
-            let period = made.replica.period;
-            made.past.decide(period);
-            if station.present == number {
-                station.past.decide(period);
-            }
-            let taken = self.seen.take_command(period, command.clone());
-            self.differing = self.differing.take().or(taken.err());
+        self.made.get_mut(&number).expect("just found").is_stored = true;
+        if !is_asked {
+            self.issue(number);
         }
         true
+    }
+
+    /// What the order of records goes by: "a record of the unstepped replica
+    /// counts as made before the ask's".
+    fn order(&self, number: usize) -> (usize, bool) {
+        match self.made[&number].before {
+            Some(ask) => (ask, false),
+            None => (number, true),
+        }
+    }
+
+    /// The command that an entry made leaves, if there is one.
+    fn issue(&mut self, number: usize) {
+        let made = self.made.get_mut(&number).expect("an entry's");
+        let Some(command) = &made.command else {
+            return;
+        };
+        let station = &mut self.stations[made.place];
+        let period = made.replica.period;
+        made.past.decide(period);
+        if station.present == number {
+            station.past.decide(period);
+        }
+        let taken = self.seen.take_command(period, command.clone());
+        self.differing = self.differing.take().or(taken.err());
     }
 
     fn come_back(&mut self, entry: &Entry, number: usize, missed: u32) -> bool {
@@ -254,6 +316,7 @@ impl History {
         station.replica = replica;
         station.past = past.clone();
         station.present = entry.number;
+        station.open = None;
         station.since = entry.number;
         let made = Made::silent(entry.place, replica, past);
         self.made.insert(entry.number, made);
@@ -281,6 +344,13 @@ impl History {
     }
 }
 
+/// What a tick is handed.
+fn row(reading: Option<i32>) -> Row {
+    let mut row = [Reading::Missing; MAX_READINGS];
+    row[0] = reading.map_or(Reading::Missing, Reading::Count);
+    row
+}
+
 /// The history of those entries for which there is what they name, with them.
 pub fn play(group: Group, entries: &[Entry]) -> (History, Vec<Entry>) {
     let mut history = History::new(group);
@@ -292,7 +362,17 @@ pub fn play(group: Group, entries: &[Entry]) -> (History, Vec<Entry>) {
 #[cfg(test)]
 mod tests {
     use super::*;
-    use What::{Arrive, GiveUp, Return, Store, Tick};
+    use What::{Return, Store};
+
+    const TICK: What = What::Event(Event::Tick(Some(5)));
+
+    fn tick(reading: Option<i32>) -> What {
+        What::Event(Event::Tick(reading))
+    }
+
+    fn arrive(sent: usize) -> What {
+        What::Event(Event::Arrive(sent))
+    }
 
     /// The history of these entries, numbered from 4 on, at the bench's boxes.
     fn played(entries: &[(usize, What)]) -> (History, usize) {
@@ -318,42 +398,41 @@ mod tests {
 
     #[test]
     fn each_condition_is_broken_alone() {
-        let tick = Tick(Some(5));
-        assert_eq!(broken(&[(0, tick), (0, Store(4))]), []);
+        assert_eq!(broken(&[(0, TICK), (0, Store(4))]), []);
         let kept = [
-            (0, tick),
+            (0, TICK),
             (0, Store(4)),
-            (1, tick),
+            (1, TICK),
             (1, Store(6)),
-            (1, Arrive(4)),
+            (1, arrive(4)),
         ];
         assert_eq!(broken(&kept), []);
-        let early = [(0, tick), (1, tick), (1, Arrive(4))];
+        let early = [(0, TICK), (1, TICK), (1, arrive(4))];
         assert_eq!(broken(&early), [Condition::StoredFirst]);
         let order = [
-            (0, tick),
-            (0, tick),
+            (0, TICK),
+            (0, TICK),
             (0, Store(5)),
             (0, Store(4)),
             (0, back(4)),
         ];
         assert_eq!(broken(&order), [Condition::InOrder]);
         let older = [
-            (0, tick),
+            (0, TICK),
             (0, Store(4)),
-            (0, tick),
+            (0, TICK),
             (0, Store(6)),
             (0, back(4)),
         ];
         assert_eq!(broken(&older), [Condition::LastReturned]);
-        let gone = [(0, Store(1)), (0, tick), (0, back(1)), (0, Store(5))];
+        let gone = [(0, Store(1)), (0, TICK), (0, back(1)), (0, Store(5))];
         assert_eq!(broken(&gone), [Condition::GoneAtStop]);
         let gone = [
             (0, Store(1)),
-            (0, tick),
+            (0, TICK),
             (0, back(1)),
-            (1, tick),
-            (1, Arrive(5)),
+            (1, TICK),
+            (1, arrive(5)),
         ];
         let both = [Condition::StoredFirst, Condition::GoneAtStop];
         assert_eq!(broken(&gone), both);
@@ -365,9 +444,9 @@ mod tests {
     #[test]
     fn entries_that_name_what_is_not_there_come_to_nothing() {
         let nothing = [
-            (0, GiveUp),
-            (1, Arrive(4)),
-            (0, Arrive(1)),
+            (0, What::Event(Event::GiveUp)),
+            (1, arrive(4)),
+            (0, arrive(1)),
             (0, Store(2)),
             (0, Store(40)),
             (0, back(1)),
@@ -387,14 +466,14 @@ mod tests {
     fn what_left_is_held_to_demand_3() {
         let entries = [
             (0, Store(1)),
-            (0, Tick(Some(60))),
+            (0, tick(Some(60))),
             (0, back(1)),
-            (0, Tick(Some(100))),
+            (0, tick(Some(100))),
             (0, Store(7)),
-            (1, Tick(None)),
-            (1, Arrive(7)),
+            (1, tick(None)),
+            (1, arrive(7)),
             (1, Store(10)),
-            (0, Arrive(10)),
+            (0, arrive(10)),
             (0, Store(12)),
         ];
         let (history, _) = played(&entries);

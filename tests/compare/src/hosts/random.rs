@@ -1,6 +1,8 @@
 //! Histories at random, at a host that keeps the conditions or breaks one.
 
-use super::history::{Condition, Entry, History, Station, What};
+mod asks;
+
+use super::history::{Condition, Entry, Event, History, Station, What};
 use crate::group::Group;
 use crate::prng::Prng;
 
@@ -41,11 +43,12 @@ impl<'a> Random<'a> {
     /// One event, and what the host does after it. Most of what occurs is of
     /// one period, so that boxes get far in it.
     fn turn(&mut self) {
+        self.commit_late();
         let any = self.prng.below(self.history.stations.len());
         let step = match self.prng.below(40) {
             0 => self.tick(any),
             1..=12 => self.tick_behind(any),
-            13..=18 => self.enter(any, What::GiveUp),
+            13..=18 => self.event(any, Event::GiveUp),
             _ => self.deliver(),
         };
         let Some(step) = step else { return };
@@ -54,8 +57,13 @@ impl<'a> Random<'a> {
             return self.store_too_late(place, step);
         }
         if self.may_break(Condition::StoredFirst, 20) {
-            return self.send_too_early(place, step);
+            return self.send_and_stop(place, step);
         }
+        self.store_or_stop(place, step);
+    }
+
+    /// After a step its record is stored, or not; the box stops, or another.
+    fn store_or_stop(&mut self, place: usize, step: usize) {
         if self.prng.chance(80) {
             self.store(place, step);
         }
@@ -69,7 +77,7 @@ impl<'a> Random<'a> {
     fn tick(&mut self, place: usize) -> Option<usize> {
         let reading = self.prng.between(-500, 500);
         let reading = (!self.prng.chance(15)).then_some(reading);
-        self.enter(place, What::Tick(reading))
+        self.event(place, Event::Tick(reading))
     }
 
     /// A tick at a box that is behind another, or in period 0.
@@ -94,7 +102,7 @@ impl<'a> Random<'a> {
             let sent = self.left[self.left.len() - 1 - self.prng.below(newest)];
             let place = self.prng.below(self.history.stations.len());
             if self.history.would_change(sent, place) {
-                return self.enter(place, What::Arrive(sent));
+                return self.event(place, Event::Arrive(sent));
             }
         }
         None
@@ -149,14 +157,13 @@ impl<'a> Random<'a> {
         self.enter(place, What::Return { record, missed });
     }
 
-    /// The frame of a step arrives before its record is stored; then the box
-    /// returns.
-    fn send_too_early(&mut self, place: usize, step: usize) {
+    /// The frame of a step arrives, stored or not; then the box returns.
+    fn send_and_stop(&mut self, place: usize, step: usize) {
         let others = 0..self.history.stations.len();
         let mut others: Vec<usize> = others.filter(|&other| other != place).collect();
         self.prng.shuffle(&mut others);
         for other in others {
-            if let Some(arrival) = self.enter(other, What::Arrive(step)) {
+            if let Some(arrival) = self.enter(other, What::Event(Event::Arrive(step))) {
                 self.store(other, arrival);
             }
         }

@@ -1,6 +1,6 @@
 //! Entries left out of a history, as long as what is wrong with it stays.
 
-use super::history::{Entry, What};
+use super::history::{Entry, Event, What};
 
 /// Entries that are wrong, and how often they break a condition.
 #[derive(Clone, Debug, PartialEq, Eq)]
@@ -24,7 +24,8 @@ fn less(wrong: &Wrong, still: &impl Fn(&[Entry]) -> Option<Wrong>) -> Option<Wro
     let entries = &wrong.entries;
     let mut parts = one_fewer(entries)
         .chain(two_fewer(entries))
-        .chain(plainer(entries));
+        .chain(plainer(entries))
+        .chain(one_ask_fewer(entries));
     parts.find_map(|part| still(&part).filter(|less| less.breaks <= wrong.breaks))
 }
 
@@ -55,11 +56,25 @@ fn plainer(entries: &[Entry]) -> impl Iterator<Item = Vec<Entry>> + '_ {
 }
 
 fn plain(entry: &Entry) -> What {
+    let tick = Event::Tick(Some(100 * (entry.place as i32 + 1)));
     match entry.what {
-        What::Tick(_) => What::Tick(Some(100 * (entry.place as i32 + 1))),
+        What::Event(Event::Tick(_)) => What::Event(tick),
+        What::Ask(Event::Tick(_)) => What::Ask(tick),
         What::Return { record, .. } => What::Return { record, missed: 0 },
         other => other,
     }
+}
+
+/// With one event that is not asked; its commit comes to nothing then.
+fn one_ask_fewer(entries: &[Entry]) -> impl Iterator<Item = Vec<Entry>> + '_ {
+    (0..entries.len()).filter_map(move |at| {
+        let What::Ask(event) = entries[at].what else {
+            return None;
+        };
+        let mut fewer = entries.to_vec();
+        fewer[at].what = What::Event(event);
+        Some(fewer)
+    })
 }
 
 #[cfg(test)]
@@ -70,14 +85,14 @@ mod tests {
         let entry = |(at, &reading): (usize, &i32)| Entry {
             number: at,
             place: 0,
-            what: What::Tick(Some(reading)),
+            what: What::Event(Event::Tick(Some(reading))),
         };
         readings.iter().enumerate().map(entry).collect()
     }
 
     fn readings(entries: &[Entry]) -> Vec<i32> {
         let reading = |entry: &Entry| match entry.what {
-            What::Tick(Some(reading)) => reading,
+            What::Event(Event::Tick(Some(reading))) => reading,
             _ => panic!("a tick with a reading"),
         };
         entries.iter().map(reading).collect()

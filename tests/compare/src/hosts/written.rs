@@ -1,19 +1,26 @@
 //! A history as a rig script.
 //!
-//! `S` stores the replica as it is, and `R` returns from what `S` stored last.
-//! A host that breaks a condition may have another record then. So of a box
-//! that returns the script has the `S` of the record that it returns from, and
-//! none of those that the host made after it.
+//! `S` stores the replica as it is, `SA` what the latest ask gave, and `R`
+//! returns from what was stored last. A host that breaks a condition may have
+//! another record then. So of a box that returns the script has the `S` of the
+//! record that it returns from, and none of those that the host made after it.
 
-use std::collections::{BTreeMap, BTreeSet};
+mod stores;
 
-use super::history::{Entry, History, What};
+use std::collections::BTreeMap;
+
+use super::history::{Entry, Event, History, What};
 use crate::group::Group;
+use stores::{stores, Stores};
 
 pub struct Written {
     pub lines: Vec<String>,
-    /// The line of each event and return, by its number.
+    /// The line of each event, commit and return: by its number, and a
+    /// commit's by that of its ask.
     line_of: BTreeMap<usize, usize>,
+    /// The tickets given up to now, by ask and by place.
+    ticket_of: BTreeMap<usize, usize>,
+    tickets: BTreeMap<usize, usize>,
     /// What the host stores that the script cannot show, or must not.
     pub unwritten: Vec<String>,
 }
@@ -24,6 +31,8 @@ pub fn written(boxes: usize, entries: &[Entry]) -> Written {
     let mut written = Written {
         lines: Vec::new(),
         line_of: BTreeMap::new(),
+        ticket_of: BTreeMap::new(),
+        tickets: BTreeMap::new(),
         unwritten: Vec::new(),
     };
     // Of fresh replicas, which no entry made.
@@ -39,24 +48,53 @@ pub fn written(boxes: usize, entries: &[Entry]) -> Written {
 impl Written {
     fn take(&mut self, entry: &Entry, stores: &Stores) {
         let number = entry.place + 1;
-        let line = match entry.what {
-            What::Tick(None) => format!("T {number} -"),
-            What::Tick(Some(reading)) => format!("T {number} {reading}"),
-            What::GiveUp => format!("G {number}"),
-            What::Arrive(sent) => format!("D {number} {}", self.line_of[&sent]),
-            What::Return { missed, .. } => format!("R {number} {missed}"),
+        let mut made = entry.number;
+        match entry.what {
+            What::Event(event) => self.lines.push(self.event(number, event)),
+            What::Ask(event) => {
+                let ticket = self.tickets.entry(number).or_default();
+                *ticket += 1;
+                self.ticket_of.insert(made, *ticket);
+                self.lines.push(format!("A{}", self.event(number, event)));
+            }
+            What::Commit(ask) => {
+                made = ask;
+                let ticket = self.ticket_of[&ask];
+                self.lines.push(format!("C {number} {ticket}"));
+            }
+            What::Return { missed, .. } => {
+                self.tickets.remove(&number);
+                self.lines.push(format!("R {number} {missed}"));
+            }
             What::Store(made) => return self.take_store(entry, made, stores),
+            What::Record => return self.store_after(entry, stores),
         };
-        self.lines.push(line);
-        self.line_of.insert(entry.number, self.lines.len());
+        self.line_of.insert(made, self.lines.len());
+        self.store_after(entry, stores);
+    }
+
+    fn store_after(&mut self, entry: &Entry, stores: &Stores) {
         if stores.after.contains(&entry.number) {
-            self.lines.push(format!("S {number}"));
+            let letters = match entry.what {
+                What::Ask(_) => "SA",
+                _ => "S",
+            };
+            self.lines.push(format!("{letters} {}", entry.place + 1));
+        }
+    }
+
+    fn event(&self, number: usize, event: Event) -> String {
+        match event {
+            Event::Tick(None) => format!("T {number} -"),
+            Event::Tick(Some(reading)) => format!("T {number} {reading}"),
+            Event::GiveUp => format!("G {number}"),
+            Event::Arrive(sent) => format!("D {number} {}", self.line_of[&sent]),
         }
     }
 
     fn take_store(&mut self, entry: &Entry, made: usize, stores: &Stores) {
-        if stores.instead.contains(&entry.number) {
-            return self.lines.push(format!("S {}", entry.place + 1));
+        if let Some(letters) = stores.instead.get(&entry.number) {
+            return self.lines.push(format!("{letters} {}", entry.place + 1));
         }
         let made = match self.line_of.get(&made) {
             Some(line) => format!("line {line}"),
@@ -93,64 +131,11 @@ impl Written {
     }
 }
 
-/// Where a script has an `S`.
-struct Stores {
-    /// In place of these entries.
-    instead: BTreeSet<usize>,
-    /// Directly after these entries.
-    after: BTreeSet<usize>,
-}
-
-fn stores(boxes: usize, entries: &[Entry]) -> Stores {
-    let mut stores = Stores {
-        instead: of_the_present(boxes, entries),
-        after: BTreeSet::new(),
-    };
-    for entry in entries {
-        let What::Return { record, .. } = entry.what else {
-            continue;
-        };
-        let between = |other: &&Entry| {
-            other.place == entry.place && (record..entry.number).contains(&other.number)
-        };
-        let mut is_stored = false;
-        for other in entries.iter().filter(between) {
-            match other.what {
-                What::Store(made) if made == record => {
-                    is_stored |= stores.instead.contains(&other.number);
-                }
-                What::Store(_) => drop(stores.instead.remove(&other.number)),
-                _ => {}
-            }
-        }
-        if !is_stored {
-            stores.after.insert(record);
-        }
-    }
-    stores
-}
-
-/// The stores of what the replica is at that time.
-fn of_the_present(boxes: usize, entries: &[Entry]) -> BTreeSet<usize> {
-    let mut present: BTreeMap<usize, usize> = (0..boxes).map(|place| (place, place + 1)).collect();
-    let mut found = BTreeSet::new();
-    for entry in entries {
-        match entry.what {
-            What::Store(made) if present.get(&entry.place) == Some(&made) => {
-                found.insert(entry.number);
-            }
-            What::Store(_) => {}
-            _ => drop(present.insert(entry.place, entry.number)),
-        }
-    }
-    found
-}
-
 #[cfg(test)]
 mod tests {
     use super::super::history::play;
     use super::*;
-    use What::{Arrive, Return, Store, Tick};
+    use What::{Ask, Commit, Event as Happens, Record, Return, Store};
 
     fn of(entries: &[(usize, What)]) -> (History, Written) {
         let entry = |(at, &(place, what)): (usize, &(usize, What))| Entry {
@@ -175,7 +160,7 @@ mod tests {
         Return { record, missed: 0 }
     }
 
-    const TICK: What = Tick(Some(5));
+    const TICK: What = Happens(Event::Tick(Some(5)));
 
     #[test]
     fn a_history_that_keeps_the_conditions_is_written_as_it_is() {
@@ -183,8 +168,8 @@ mod tests {
             (0, Store(1)),
             (0, TICK),
             (0, Store(5)),
-            (1, Tick(None)),
-            (1, Arrive(5)),
+            (1, Happens(Event::Tick(None))),
+            (1, Happens(Event::Arrive(5))),
             (
                 0,
                 Return {
@@ -252,5 +237,44 @@ mod tests {
             (0, back(5)),
         ]);
         assert!(!is_played(&history, &script));
+    }
+
+    #[test]
+    fn asks_are_written_with_their_tickets() {
+        let tick = Ask(Event::Tick(Some(5)));
+        let entries = [
+            (0, tick),
+            (0, tick),
+            (0, Store(5)),
+            (0, Commit(5)),
+            (1, Happens(Event::Tick(None))),
+            (1, Happens(Event::Arrive(5))),
+            (0, back(5)),
+            (0, tick),
+            (0, Commit(11)),
+        ];
+        let (history, written) = of(&entries);
+        let lines = [
+            "AT 1 5", "AT 1 5", "SA 1", "C 1 2", "T 2 -", "D 2 4", "R 1 0", "AT 1 5", "C 1 1",
+        ];
+        assert_eq!(written.lines, lines);
+        assert!(written.unwritten.is_empty());
+        assert!(is_played(&history, &written));
+    }
+
+    #[test]
+    fn the_unstepped_replica_is_stored_after_what_was_asked() {
+        let entries = [
+            (0, Ask(Event::Tick(Some(5)))),
+            (0, Record),
+            (0, Store(4)),
+            (0, Store(5)),
+            (0, Commit(4)),
+            (0, back(5)),
+        ];
+        let (history, written) = of(&entries);
+        assert_eq!(written.lines, ["AT 1 5", "SA 1", "S 1", "C 1 1", "R 1 0"]);
+        assert!(written.unwritten.is_empty());
+        assert!(is_played(&history, &written));
     }
 }

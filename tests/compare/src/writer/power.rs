@@ -18,15 +18,21 @@ impl Writer<'_> {
         if self.prng.chance(5) {
             self.come_back_late();
         }
+        if self.asking.is_some() {
+            self.commit_late();
+        }
     }
 
     /// After a step its record is stored at once, later or never.
     pub(super) fn hold(&mut self, place: usize, waiting: Waiting, answer: Answer) {
-        self.drop_waiting(place);
+        self.set_aside(place, answer);
         let station = &mut self.stations[place];
         station.waiting = Some(waiting);
         station.just_returned = false;
         station.unstored += usize::from(answer == Answer::Ok);
+        if self.asking.is_some() {
+            self.store_void(place);
+        }
         let may_leave = waiting.frame.is_some() || waiting.decided.is_some();
         let share = match answer {
             Answer::Ok if may_leave => self.stored_at_once,
@@ -41,18 +47,31 @@ impl Writer<'_> {
     }
 
     /// What was made and not stored never leaves.
-    fn drop_waiting(&mut self, place: usize) {
-        if let Some(waiting) = self.stations[place].waiting.take() {
+    pub(super) fn drop_waiting(&mut self, place: usize) {
+        let waiting = self.stations[place].waiting.take();
+        self.count_dropped(waiting);
+    }
+
+    /// The same of what a commit made before the last event.
+    pub(super) fn drop_behind(&mut self, place: usize) {
+        let behind = self.stations[place].behind.take();
+        self.count_dropped(behind);
+    }
+
+    fn count_dropped(&mut self, waiting: Option<Waiting>) {
+        if let Some(waiting) = waiting {
             self.counts.frames_never_left += usize::from(waiting.frame.is_some());
             self.counts.commands_never_left += usize::from(waiting.decided.is_some());
         }
     }
 
-    /// `S`: the record of the replica is stored.
+    /// `S`: the record of the replica is stored, unless it counts as made
+    /// before one that was stored.
     pub fn store(&mut self, place: usize) {
-        if self.is_full() || self.is_out(place) {
+        if self.is_full() || self.is_out(place) || !self.stations[place].may_store() {
             return;
         }
+        self.drop_behind(place);
         self.counts.stores += 1;
         self.lines.push(format!("S {}", place + 1).into_bytes());
         self.unsent.push(self.lines.len());
@@ -89,11 +108,20 @@ impl Writer<'_> {
             Ok(replica) => {
                 self.count_return(place, missed);
                 self.drop_waiting(place);
-                self.replicas[place] = replica;
+                self.drop_behind(place);
+                let held = self.take_held(place).returned_as(replica);
+                self.put_back(place, held);
+                let former = std::mem::take(&mut self.stations[place].asks);
                 self.stations[place].unstored = 0;
                 self.stations[place].just_returned = true;
+                self.commit_former(place, &former);
             }
-            Err(refusal) => self.counts.refused[usize::from(refusal.number())] += 1,
+            Err(refusal) => {
+                self.counts.refused[usize::from(refusal.number())] += 1;
+                if let Some(ask) = self.stations[place].asks.last_mut() {
+                    ask.returns_refused += 1;
+                }
+            }
         }
     }
 
@@ -175,6 +203,7 @@ impl Writer<'_> {
     pub fn end(&mut self) {
         for place in 0..self.stations.len() {
             self.drop_waiting(place);
+            self.drop_behind(place);
         }
     }
 
@@ -200,6 +229,7 @@ impl Writer<'_> {
             station.unstored > 0,
         ];
         self.counts.steps_lost += station.unstored;
+        self.counts.asks.returned += usize::from(station.is_record_asked);
         for (count, case) in self.counts.returns.iter_mut().zip(cases) {
             *count += usize::from(case);
         }

@@ -5,12 +5,13 @@ use crate::law::{Command, MAX_COMMANDS, MAX_STATES};
 use crate::page::Entry;
 use crate::refusal::Refusal;
 use crate::replica::MOST_BOXES;
-use crate::script::{number, number_in, words, BAD, HEADER, MOST_LINES};
+use crate::script::{number, number_in, ticket_number, words, BAD, HEADER, MOST_LINES};
 
 /// A line that one of the programs prints.
 #[derive(Debug, PartialEq, Eq)]
 pub enum Line {
-    /// No entry: the header, a `bad` or a refusal, and any answer but `ok`.
+    /// No entry: the header, a `bad` or a refusal, any answer but `ok`, and an
+    /// ask's line whatever its answer is.
     Silent,
     /// An answer that is `ok`.
     Done(Done),
@@ -56,10 +57,11 @@ pub fn judge(line: &[u8]) -> Option<Line> {
     match fields[..] {
         [word] if is_bad(word) || is_refusal(word) => Some(Line::Silent),
         [no, word] if is_line_number(no) && is_bad(word) => Some(Line::Silent),
-        [no, who, answer, ref rest @ ..] if is_line_number(no) && is_box(who) => {
-            answered(answer, done(rest)?)
+        [ref ten @ .., ticket] if ten.len() == 10 => {
+            ticket_number(ticket)?;
+            answered(ten, is_asked_frame).map(|_| Line::Silent)
         }
-        _ => None,
+        ref ten => answered(ten, is_frame),
     }
 }
 
@@ -77,18 +79,37 @@ fn is_box(word: &[u8]) -> bool {
 }
 
 /// "`r` and the number, as `r9`". The numbers are those of events and
-/// settings, and that of a return: no script prints a page's refusals or a
-/// record's.
+/// settings, that of a return and that of a commit: no script prints a page's
+/// refusals or a record's.
 fn is_refusal(word: &[u8]) -> bool {
     let last = usize::from(Refusal::LastView.number());
     let missed = usize::from(Refusal::Missed.number());
+    let ticket = usize::from(Refusal::Ticket.number());
     word.strip_prefix(b"r")
-        .and_then(|number| number_in(number, 1..=missed))
-        .is_some_and(|number| number <= last || number == missed)
+        .and_then(|number| number_in(number, 1..=ticket))
+        .is_some_and(|number| number <= last || number >= missed)
 }
 
-/// "answer (`ok`, `ignored`, or `r` and the number, as `r9`)"
-fn answered(answer: &[u8], done: Done) -> Option<Line> {
+/// "line number if a frame was sent .. `-` stands where there is no frame"
+fn is_frame(word: &[u8]) -> bool {
+    word == b"-" || is_line_number(word)
+}
+
+/// Changes: "for the frame `?` where one would be sent".
+fn is_asked_frame(word: &[u8]) -> bool {
+    word == b"-" || word == b"?"
+}
+
+/// "line, box, answer (`ok`, `ignored`, or `r` and the number, as `r9`)", and
+/// what stands behind them.
+fn answered(fields: &[&[u8]], is_frame: fn(&[u8]) -> bool) -> Option<Line> {
+    let [no, who, answer, ref rest @ ..] = *fields else {
+        return None;
+    };
+    if !is_line_number(no) || !is_box(who) {
+        return None;
+    }
+    let done = done(rest, is_frame)?;
     match answer {
         b"ok" => Some(Line::Done(done)),
         b"ignored" => Some(Line::Silent),
@@ -98,20 +119,19 @@ fn answered(answer: &[u8], done: Done) -> Option<Line> {
 
 /// "period, view, base view, base period, state, line number if a frame was
 /// sent, command; `-` stands where there is no frame or command"
-fn done(fields: &[&[u8]]) -> Option<Done> {
+fn done(fields: &[&[u8]], is_frame: fn(&[u8]) -> bool) -> Option<Done> {
     let [k, v, vb, kb, x, frame, command] = *fields else {
         return None;
     };
     counter(vb)?;
     counter(kb)?;
     values(x, MAX_STATES)?;
-    let is_frame = frame == b"-" || is_line_number(frame);
     let done = Done {
         period: counter(k)?,
         view: counter(v)?,
         values: command_values(command)?,
     };
-    is_frame.then_some(done)
+    is_frame(frame).then_some(done)
 }
 
 /// A number of 32 bits without a sign.
@@ -172,8 +192,8 @@ mod tests {
             ("1 9 500", "0 501 01 +1 -1 -"),
             ("1 9", "0 10 01 -1 -"),
             (
-                "ok ignored r1 r9 r10 r12 r16",
-                "r r0 r13 r14 r15 r17 r116 r016 r01 R1 Ok oks bad - 1",
+                "ok ignored r1 r9 r10 r12 r16 r17",
+                "r r0 r13 r14 r15 r18 r117 r017 r01 R1 Ok oks bad - 1",
             ),
             counters,
             counters,
@@ -217,10 +237,57 @@ mod tests {
             let doubled = format!("{} {}", &ten[..at], &ten[at..]);
             assert_eq!(judge(doubled.as_bytes()), None);
         }
-        // An ask's line has eleven, from L6 on.
+        // An ask's line has eleven, but names no line as its frame.
         for behind in [" ", " 1", " *", " -", "\r", "\t"] {
             assert_eq!(judge(format!("{ten}{behind}").as_bytes()), None);
             assert_eq!(judge(format!("{behind}{ten}").as_bytes()), None);
+        }
+    }
+
+    const ELEVEN_FIELDS: &str = "1 1 ok 1 0 0 1 0 ? 5 1";
+
+    /// The judgement of an ask's line with one field replaced.
+    fn asked_with_field(place: usize, word: &str) -> Option<Line> {
+        let mut fields: Vec<&str> = ELEVEN_FIELDS.split(' ').collect();
+        fields[place] = word;
+        judge(fields.join(" ").as_bytes())
+    }
+
+    /// Changes: "nor is an ask's line (eleven fields, from L6 on)".
+    #[test]
+    fn an_asks_line_is_no_entry() {
+        assert_eq!(judge(ELEVEN_FIELDS.as_bytes()), Some(Line::Silent));
+        let largest = "18446744073709551615";
+        let fields = [
+            (
+                2,
+                "ok ignored r1 r12 r16 r17",
+                "r0 r13 r14 r15 r18 Ok bad -",
+            ),
+            (7, "0 -1 1,2", "- ? 01 1,"),
+            (8, "- ?", "1 500 ?? -- 0 *"),
+            (9, "- 5 5* 1,2,3,4", "? * 1,2,3,4,5"),
+            (10, "0 1 9223372036854775808", "- ? -1 -0 +1 01 00 1* x"),
+            (10, largest, "18446744073709551616 99999999999999999999"),
+        ];
+        for (place, good, bad) in fields {
+            for word in good.split(' ') {
+                let line = asked_with_field(place, word);
+                assert_eq!(line, Some(Line::Silent), "{place} {word:?}");
+            }
+            for word in bad.split(' ').chain([""]) {
+                assert_eq!(asked_with_field(place, word), None, "{place} {word:?}");
+            }
+        }
+        for place in [0, 1, 3, 4, 5, 6] {
+            for word in ["", "-", "?", "01", "4294967296"] {
+                assert_eq!(asked_with_field(place, word), None, "{place} {word:?}");
+            }
+        }
+        // A line of twelve fields is none.
+        for behind in [" ", " 1", "\r"] {
+            let longer = format!("{ELEVEN_FIELDS}{behind}");
+            assert_eq!(judge(longer.as_bytes()), None);
         }
     }
 }

@@ -1,5 +1,6 @@
 -- `events::calls` meets its contract. Assumes nothing.
 use borrow.Author.Needs.{needs}
+use mathlib.Core.Bool.{false}
 use Rattle.line.proofs.events.calls.Statement.{statement}
 use Rattle.line.proofs.events.calls.Tie as tie
 
@@ -7,7 +8,7 @@ missing-requires : tie.Need-missing-requires
 missing-requires c κs = search needs
 
 returns : tie.Need-returns
-returns c = λ i. record { event = c .before .args .event; readings = c .missing .ensures i }
+returns c = λ i. record { event = c .before .args .event; asks = false; readings = c .missing .ensures i }
 
 pub calls-spec : {M : Type 1} → statement M
 calls-spec = tie.close (tie.spec missing-requires returns)

@@ -1,6 +1,7 @@
 -- `events::tick` meets its contract. Assumes nothing.
 use borrow.Author.Needs.{needs}
 use mathlib.Core.Path.{_≡_, sym, _∙_}
+use mathlib.Core.Bool.{false}
 use Prim.Native.Nat.{_+_}
 use borrow.Author.Tests.{eq-eqb, ne-eqb, not-true, not-false}
 use Rattle.lists.specs.Choice.{pick}
@@ -43,7 +44,7 @@ returns-3 c =
     let e : a .count ≡ a .m + 1 = c .before .before .before .before .if1 .left in
     let all = sym (c .before .before .before .row-in .ensures .1) ∙ not-false _ (c .before .if2 .left) in
     let row = c .before .before .before .row-in .ensures .0 in
-    rw (eq-eqb _ _ e, all) (λ i. record { event = Tick (a .at); readings = row i })
+    rw (eq-eqb _ _ e, all) (λ i. record { event = Tick (a .at); asks = false; readings = row i })
 
 pub tick-spec : {M : Type 1} → statement M
 tick-spec =

@@ -7,7 +7,7 @@ use Prim.Native.Nat.{ℕ}
 use borrow.Author.Tests.{not-true, not-false}
 use Rattle.line.specs.Fields.{field}
 use Rattle.printed.specs.Values.{isList}
-use Rattle.printed.specs.Lines.{isNone, isUpTo, unstarred, tailOk}
+use Rattle.printed.specs.Lines.{isNone, unstarred, isFrame, tailOk}
 use Rattle.printed.proofs.lines.tail_ok.Statement.{statement}
 use Rattle.printed.proofs.lines.tail_ok.Tie as tie
 
@@ -17,8 +17,8 @@ state : (c : tie.Else1) → isList 6 (field 7 (c .before .before .before .before
 state c = sym (c .before .is-list .ensures ∙ ap (isList 6) (c .before .before .field .ensures)) ∙ not-false _ (c .if1 .left)
 
 frame : (c : tie.After-is-frame) → let line = c .before .before .before .before .before .before .args .line .now in
-    c .is-frame .result ≡ (isNone (field 8 line) || isUpTo 500 (field 8 line))
-frame c = c .is-frame .ensures ∙ ap (λ (b : List ℕ). isNone b || isUpTo 500 b) (c .before .field2 .ensures)
+    c .is-frame .result ≡ isFrame (c .before .before .before .before .before .before .args .asks) (field 8 line)
+frame c = c .is-frame .ensures ∙ ap (isFrame _) (c .before .field2 .ensures)
 
 -- ---- what is to be shown
 

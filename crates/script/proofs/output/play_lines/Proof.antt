@@ -121,7 +121,7 @@ loop-again c =
     (line .result) (p .place-of .result) (call .result) _ _ (p .before .readings-of .result)
     (p .before .before .before .before .before .before .before .loop-test .taken) (omega (arith, p .before .before .before .before .before .before .if1 .left))
     (line .ensures .2) (line .ensures .3) (call .ensures) (p .place-of .ensures .0) (p .place-of .ensures .1) refl (p .before .readings-of .ensures)
-    (t .kept .1 .1 .1 .1 .0) (t .kept .1 .1 .1 .1 .1 .0) (t .kept .1 .1 .1 .1 .1 .1 .0) (t .ensures)
+    (t .kept .1 .1 .1 .1 .1 .0) (t .kept .1 .1 .1 .1 .1 .1 .0) (t .kept .1 .1 .1 .1 .1 .1 .1 .0) (t .ensures)
 
 same-length-4 : tie.Need-same-length-4 Inv-loop μ-loop
 same-length-4 c = c .before .loop .inv .frames ∙ sym (c .before .before .before .before .before .before .pre .0)

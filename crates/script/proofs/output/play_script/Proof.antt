@@ -6,7 +6,7 @@ use Prim.Native.Nat.{ℕ, _+_}
 use lib.ListN.{take, replicate}
 use native.Mathlib.Omega.{arith}
 use Rattle.text.proofs.PrintingLaws.{put-within}
-use Rattle.script.specs.declared.play.Kept.{Kept}
+use Rattle.script.specs.declared.boxes.Kept.{Kept}
 use Rattle.script.specs.Printing.{headerLine}
 use Rattle.script.specs.Play.{most, tableLength}
 use Rattle.text.specs.Lines.{linesOf}

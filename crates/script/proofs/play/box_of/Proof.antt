@@ -1,6 +1,6 @@
 -- `play::box_of` meets its contract. Assumes nothing.
-use mathlib.Core.Path.{sym, ap}
 use borrow.Author.Needs.{needs}
+use mathlib.Core.Path.{sym, ap}
 use Rattle.script.specs.Play.{boxIn}
 use Rattle.script.proofs.play.box_of.Statement.{statement}
 use Rattle.script.proofs.play.box_of.Tie as tie
@@ -19,6 +19,12 @@ enum-known-event-4 c = search needs
 
 enum-known-event-5 : tie.Need-enum-known-event-5
 enum-known-event-5 c = search needs
+
+enum-known-event-6 : tie.Need-enum-known-event-6
+enum-known-event-6 c = search needs
+
+enum-known-event-7 : tie.Need-enum-known-event-7
+enum-known-event-7 c = search needs
 
 enum-told : tie.Need-enum-told
 enum-told c = search needs
@@ -45,7 +51,15 @@ returns-5 c = sym (ap boxIn (c .before .event5 .given .1))
 
 returns-6 : tie.Need-returns-6
 unfolding boxIn
-returns-6 c = sym (ap boxIn (c .enum-told .given .1))
+returns-6 c = sym (ap boxIn (c .before .event6 .given .1))
+
+returns-7 : tie.Need-returns-7
+unfolding boxIn
+returns-7 c = sym (ap boxIn (c .before .event7 .given .1))
+
+returns-8 : tie.Need-returns-8
+unfolding boxIn
+returns-8 c = sym (ap boxIn (c .enum-told .given .1))
 
 pub box-of-spec : {M : Type 1} → statement M
 box-of-spec =
@@ -56,10 +70,14 @@ box-of-spec =
     enum-known-event-3
     enum-known-event-4
     enum-known-event-5
+    enum-known-event-6
+    enum-known-event-7
     enum-told
     returns
     returns-2
     returns-3
     returns-4
     returns-5
-    returns-6)
+    returns-6
+    returns-7
+    returns-8)

@@ -1,10 +1,8 @@
 -- `play::step` meets its contract. Assumes nothing.
-use mathlib.Core.Path.{sym, subst}
-use lib.ListN.{length}
 use borrow.Author.Needs.{needs}
-use Rattle.replica.specs.Calls.{Gives}
-use Rattle.script.specs.Play.{outcomeOf, settingsAfter}
-use Rattle.script.proofs.PlayLaws.{gives-quietly}
+use mathlib.Core.Path.{sym, subst}
+use Rattle.script.specs.Boxes.{Gives}
+use Rattle.script.specs.Play.{effectOf}
 use Rattle.script.proofs.play.step.Statement.{statement}
 use Rattle.script.proofs.play.step.Tie as tie
 
@@ -29,8 +27,8 @@ arrive-requires c κs = search needs
 enum-told-4 : tie.Need-enum-told-4
 enum-told-4 c = search needs
 
-quiet-requires : tie.Need-quiet-requires
-quiet-requires c κs = search needs
+store-requires : tie.Need-store-requires
+store-requires c κs = search needs
 
 enum-known-event : tie.Need-enum-known-event
 enum-known-event c = search needs
@@ -38,92 +36,71 @@ enum-known-event c = search needs
 come-back-requires : tie.Need-come-back-requires
 come-back-requires c κs = search needs
 
+enum-known-event-2 : tie.Need-enum-known-event-2
+enum-known-event-2 c = search needs
+
+commit-requires : tie.Need-commit-requires
+commit-requires c κs = search needs
+
 enum-told-5 : tie.Need-enum-told-5
 enum-told-5 c = search needs
 
-quiet-requires-2 : tie.Need-quiet-requires-2
-quiet-requires-2 c κs = search needs
+store-asked-requires : tie.Need-store-asked-requires
+store-asked-requires c κs = search needs
 
-same-length : tie.Need-same-length
-same-length c = search needs
+enum-told-6 : tie.Need-enum-told-6
+enum-told-6 c = search needs
 
-same-length-2 : tie.Need-same-length-2
-same-length-2 c = search needs
+quiet-requires : tie.Need-quiet-requires
+quiet-requires c κs = search needs
 
 returns : tie.Need-returns
-unfolding outcomeOf settingsAfter
+unfolding effectOf
 returns c =
-    let s = c .before .before .before .before .before .before .before .before .before .before .before .before .before .args in
-    let t = c .before .before .before .before .tick in
-    subst
-    (λ e. Gives (settingsAfter (s .kept) e)
-    (outcomeOf (s .kept) e (s .readings) (s .arriving .now) (length (s .frame .now)) (length (s .command .now))) (t .result)
-    (s .frame .now) (t .last .1 .1 .0) (s .command .now) (t .last .1 .1 .1 .0))
-    (sym (c .before .before .before .before .before .before .before .enum-told .given .1)) (t .ensures)
-
-same-length-3 : tie.Need-same-length-3
-same-length-3 c = search needs
-
-same-length-4 : tie.Need-same-length-4
-same-length-4 c = search needs
+    let a = c .before .before .before .before .args in
+    subst (λ e. Gives (effectOf (a .kept) e (a .readings) (a .bytes .now)) (c .tick .result)) (sym (c .before .enum-told .given .1)) (c .tick .ensures)
 
 returns-2 : tie.Need-returns-2
-unfolding outcomeOf settingsAfter
+unfolding effectOf
 returns-2 c =
-    let s = c .before .before .before .before .before .before .before .before .before .before .before .before .before .args in
-    let t = c .before .before .before .before .give-up in
-    subst
-    (λ e. Gives (settingsAfter (s .kept) e)
-    (outcomeOf (s .kept) e (s .readings) (s .arriving .now) (length (s .frame .now)) (length (s .command .now))) (t .result)
-    (s .frame .now) (t .last .1 .0) (s .command .now) (t .last .1 .1 .0))
-    (sym (c .before .before .before .before .before .before .before .enum-told2 .given .1)) (t .ensures)
-
-same-length-5 : tie.Need-same-length-5
-same-length-5 c = search needs
-
-same-length-6 : tie.Need-same-length-6
-same-length-6 c = search needs
+    let a = c .before .before .before .before .args in
+    subst (λ e. Gives (effectOf (a .kept) e (a .readings) (a .bytes .now)) (c .give-up .result)) (sym (c .before .enum-told2 .given .1)) (c .give-up .ensures)
 
 returns-3 : tie.Need-returns-3
-unfolding outcomeOf settingsAfter
+unfolding effectOf
 returns-3 c =
-    let s = c .before .before .before .before .before .before .before .before .before .before .before .before .before .args in
-    let t = c .before .before .before .before .arrive in
-    subst
-    (λ e. Gives (settingsAfter (s .kept) e)
-    (outcomeOf (s .kept) e (s .readings) (s .arriving .now) (length (s .frame .now)) (length (s .command .now))) (t .result)
-    (s .frame .now) (t .last .1 .1 .0) (s .command .now) (t .last .1 .1 .1 .0))
-    (sym (c .before .before .before .before .before .before .before .enum-told3 .given .1)) (t .ensures)
+    let a = c .before .before .before .before .args in
+    subst (λ e. Gives (effectOf (a .kept) e (a .readings) (a .bytes .now)) (c .arrive .result)) (sym (c .before .enum-told3 .given .1)) (c .arrive .ensures)
 
 returns-4 : tie.Need-returns-4
-unfolding outcomeOf settingsAfter
+unfolding effectOf
 returns-4 c =
-    let s = c .before .before .before .before .before .before .before .args in
-    subst
-    (λ e. Gives (settingsAfter (s .kept) e)
-    (outcomeOf (s .kept) e (s .readings) (s .arriving .now) (length (s .frame .now)) (length (s .command .now)))
-    (c .quiet .result) (s .frame .now) (s .frame .now) (s .command .now) (s .command .now))
-    (sym (c .before .enum-told4 .given .1)) (gives-quietly (s .frame .now) (s .command .now) (c .quiet .ensures))
+    let a = c .before .before .before .before .args in
+    subst (λ e. Gives (effectOf (a .kept) e (a .readings) (a .bytes .now)) (c .store .result)) (sym (c .before .enum-told4 .given .1)) (c .store .ensures)
 
 returns-5 : tie.Need-returns-5
-unfolding outcomeOf settingsAfter
+unfolding effectOf
 returns-5 c =
-    let s = c .before .before .before .before .before .before .before .before .args in
-    subst
-    (λ e. Gives (settingsAfter (s .kept) e)
-    (outcomeOf (s .kept) e (s .readings) (s .arriving .now) (length (s .frame .now)) (length (s .command .now)))
-    (c .come-back .result) (s .frame .now) (s .frame .now) (s .command .now) (s .command .now))
-    (sym (c .before .before .event .given .1)) (gives-quietly (s .frame .now) (s .command .now) (c .come-back .ensures))
+    let a = c .before .before .before .before .before .args in
+    subst (λ e. Gives (effectOf (a .kept) e (a .readings) (a .bytes .now)) (c .come-back .result)) (sym (c .before .before .event .given .1)) (c .come-back .ensures)
 
 returns-6 : tie.Need-returns-6
-unfolding outcomeOf settingsAfter
+unfolding effectOf
 returns-6 c =
-    let s = c .before .before .before .before .before .before .before .args in
-    subst
-    (λ e. Gives (settingsAfter (s .kept) e)
-    (outcomeOf (s .kept) e (s .readings) (s .arriving .now) (length (s .frame .now)) (length (s .command .now)))
-    (c .quiet2 .result) (s .frame .now) (s .frame .now) (s .command .now) (s .command .now))
-    (sym (c .before .enum-told5 .given .1)) (gives-quietly (s .frame .now) (s .command .now) (c .quiet2 .ensures))
+    let a = c .before .before .before .before .before .args in
+    subst (λ e. Gives (effectOf (a .kept) e (a .readings) (a .bytes .now)) (c .commit .result)) (sym (c .before .before .event2 .given .1)) (c .commit .ensures)
+
+returns-7 : tie.Need-returns-7
+unfolding effectOf
+returns-7 c =
+    let a = c .before .before .before .before .args in
+    subst (λ e. Gives (effectOf (a .kept) e (a .readings) (a .bytes .now)) (c .store-asked .result)) (sym (c .before .enum-told5 .given .1)) (c .store-asked .ensures)
+
+returns-8 : tie.Need-returns-8
+unfolding effectOf
+returns-8 c =
+    let a = c .before .before .before .before .args in
+    subst (λ e. Gives (effectOf (a .kept) e (a .readings) (a .bytes .now)) (c .quiet .result)) (sym (c .before .enum-told6 .given .1)) (c .quiet .ensures)
 
 pub step-spec : {M : Type 1} → statement M
 step-spec =
@@ -136,20 +113,20 @@ step-spec =
     enum-told-3
     arrive-requires
     enum-told-4
-    quiet-requires
+    store-requires
     enum-known-event
     come-back-requires
+    enum-known-event-2
+    commit-requires
     enum-told-5
-    quiet-requires-2
-    same-length
-    same-length-2
+    store-asked-requires
+    enum-told-6
+    quiet-requires
     returns
-    same-length-3
-    same-length-4
     returns-2
-    same-length-5
-    same-length-6
     returns-3
     returns-4
     returns-5
-    returns-6)
+    returns-6
+    returns-7
+    returns-8)

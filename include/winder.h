@@ -11,6 +11,9 @@
  * A row of readings. present[j] is 0 where reading j is absent, and anything else where it is present; values[j] is its value. A count
  * goes there as it is; winder_convert_single makes mark and value of a single in newtons.
  *
+ * Limited. The mark that goes with an update, a command and what a box issues: 1 where it is not what the gains alone would give, since
+ * clamping or limits changed a value, else 0. A value at its limit is not changed by it.
+ *
  * A replica is its record: WINDER_RECORD bytes, laid out as docs/RECORD.md says, that a host keeps, lends to each call, and stores. No call
  * keeps anything else of it. A host that asks what a step would give before the step is made keeps a replica with tickets instead:
  * WINDER_TICKETED bytes, the record and the tickets behind it. It stores records alone. Each call takes one of the two, and refuses the
@@ -35,8 +38,8 @@
  * The version: major version times 100, and minor version. A further call makes a new minor version; a call that is gone or means
  * something else makes a new major one. winder_version says for which version the archive was made.
  */
-#define WINDER_VERSION 104
-#define WINDER_VERSION_TEXT "1.4"
+#define WINDER_VERSION 200
+#define WINDER_VERSION_TEXT "2.0"
 
 /* The most states, readings and commands; the least of each is 1. */
 #define WINDER_STATES_MAX 6
@@ -141,7 +144,8 @@ uint8_t winder_convert_single(uint32_t bits, int32_t *value);
  *   x'(i) = clamp((sum of A(i,j) * x(j) + sum of L(i,j) * e(j)) / 65536), one division for both sums
  *
  * Clamp means: into the int32_t range. Division goes to the nearest whole number, ties to the even one. state: in, the state x; out, the
- * state x', and 0 in the places beyond n. k, low and high are looked at for refusals alone.
+ * state x', and 0 in the places beyond n. *limited: out, 1 where clamping changed e(j) of a present reading or x'(i), else 0. k, low and high
+ * are looked at for refusals alone.
  *
  * Refuses by 2, 3 and 4.
  */
@@ -157,14 +161,16 @@ uint32_t winder_update(
     const int32_t high[4],
     const uint8_t present[4],
     const int32_t values[4],
-    int32_t state[6]);
+    int32_t state[6],
+    uint8_t *limited);
 
 /* The same, with settings from a struct. */
 static inline uint32_t winder_update_with(
     const struct winder_settings *settings,
     const uint8_t present[4],
     const int32_t values[4],
-    int32_t state[6])
+    int32_t state[6],
+    uint8_t *limited)
 {
     return winder_update(
         settings->n,
@@ -178,7 +184,8 @@ static inline uint32_t winder_update_with(
         settings->high,
         present,
         values,
-        state);
+        state,
+        limited);
 }
 
 /*
@@ -186,8 +193,8 @@ static inline uint32_t winder_update_with(
  *
  *   command j = (sum over i of K(j,i) * x(i)) / 65536, brought into its own limits low[j] and high[j]
  *
- * Division goes to the nearest whole number, ties to the even one. commands: out, the commands, and 0 in the places beyond p. a, l and c
- * are looked at for refusals alone.
+ * Division goes to the nearest whole number, ties to the even one. commands: out, the commands, and 0 in the places beyond p. *limited: out,
+ * 1 where its limits changed a command, else 0. a, l and c are looked at for refusals alone.
  *
  * Refuses by 2, 3 and 4.
  */
@@ -202,13 +209,15 @@ uint32_t winder_command(
     const int32_t low[4],
     const int32_t high[4],
     const int32_t state[6],
-    int32_t commands[4]);
+    int32_t commands[4],
+    uint8_t *limited);
 
 /* The same, with settings from a struct. */
 static inline uint32_t winder_command_with(
     const struct winder_settings *settings,
     const int32_t state[6],
-    int32_t commands[4])
+    int32_t commands[4],
+    uint8_t *limited)
 {
     return winder_command(
         settings->n,
@@ -221,7 +230,8 @@ static inline uint32_t winder_command_with(
         settings->low,
         settings->high,
         state,
-        commands);
+        commands,
+        limited);
 }
 
 /*
@@ -268,16 +278,18 @@ uint32_t winder_write_frame(
 /*
  * Reads a command of p values, which a box writes where it decides. bytes is the whole command, bytes_length its length.
  *
- * Out: *period is the period that the command was decided for; commands holds its values, and 0 in the places beyond p.
+ * Out: *period is the period that the command was decided for; commands holds its values, and 0 in the places beyond p; *limited is its byte
+ * 2: 1 where clamping or limits changed a value in the update or the command that it comes from, else 0.
  *
- * Refuses by 2 for p, then by 8: a length that is not 8 + 4 * p, byte 0 not 5, byte 1 not p, or byte 2 or 3 not 0.
+ * Refuses by 2 for p, then by 8: a length that is not 8 + 4 * p, byte 0 not 5, byte 1 not p, byte 2 above 1, or byte 3 not 0.
  */
 uint32_t winder_read_command(
     size_t p,
     const uint8_t *bytes,
     size_t bytes_length,
     uint32_t *period,
-    int32_t commands[4]);
+    int32_t commands[4],
+    uint8_t *limited);
 
 /*
  * Writes a shift page to the start of an area: a line for each period, in rising order, of 72 bytes and a line feed. Columns from 0: the

@@ -33,15 +33,17 @@ static void need(int holds, const char *what)
     }
 }
 
-/* A command goes to the drive. All of a period must be alike. */
+/* A command goes to the drive. All of a period must be alike, the mark of a limited one too; with these limits and readings none is. */
 static void issue(int own)
 {
     static uint32_t last, period;
     static int32_t taken, values[4];
-    need(winder_read_command(bench.p, command, lengths[1], &period, values) == 0, "this is no command");
-    need(period != last || values[0] == taken, "two commands of one period differ");
+    static uint8_t mark, limited;
+    need(winder_read_command(bench.p, command, lengths[1], &period, values, &limited) == 0, "this is no command");
+    need(period != last || (values[0] == taken && limited == mark), "two commands of one period differ");
     last = period;
     taken = values[0];
+    mark = limited;
     printf(" %d (box %d)", (int)taken, own);
 }
 

@@ -29,3 +29,8 @@ double command_of(const struct Row *row)
 {
     return row->command;
 }
+
+double limited_of(const struct Row *row)
+{
+    return row->limited ? 1.0 : 0.0;
+}

@@ -13,4 +13,7 @@ double tension_of(const struct Row *row);
 double reading_of(const struct Row *row);
 double command_of(const struct Row *row);
 
+/* 1 where the command is limited, else 0. */
+double limited_of(const struct Row *row);
+
 #endif

@@ -22,9 +22,12 @@ enum { TENSION, LEAD, DRAG, SETPOINT };
 /* Newtons for each millimetre per second of lead too much: a damping of 0.6. */
 #define DAMPING 4.8
 
-/* In newtons. */
+/*
+ * In newtons. The highest is what the drive can bring at every radius: of its 200 N m a ramp of the line takes 29 N m at the full radius of
+ * 0.4 m, and what is left is 427 N there.
+ */
 #define LOWEST_COMMAND 0
-#define HIGHEST_COMMAND 600
+#define HIGHEST_COMMAND 425
 
 /* What one period adds: tension by lead, lead by force, and the share of the tension that the roll carries away. */
 #define TENSION_BY_LEAD (WEB_STIFFNESS / SPAN * PERIOD / MILLIMETRES)
@@ -101,17 +104,20 @@ struct Controller controller_at_tension(double tension, double setpoint, int32_t
     return controller;
 }
 
-uint32_t controller_step(struct Controller *controller, const struct Readings *readings, int32_t *command)
+/* The mark of a box's command is that of the update and the command together, and so is this one. */
+uint32_t controller_step(struct Controller *controller, const struct Readings *readings, int32_t *command, bool *limited)
 {
     int32_t commands[WINDER_COMMANDS_MAX];
+    uint8_t in_update, in_command;
 
-    uint32_t refusal = winder_update_with(&controller->law, readings->present, readings->values, controller->state);
+    uint32_t refusal = winder_update_with(&controller->law, readings->present, readings->values, controller->state, &in_update);
     if (refusal != 0) {
         return refusal;
     }
-    refusal = winder_command_with(&controller->law, controller->state, commands);
+    refusal = winder_command_with(&controller->law, controller->state, commands, &in_command);
     if (refusal == 0) {
         *command = commands[0];
+        *limited = in_update != 0 || in_command != 0;
     }
     return refusal;
 }

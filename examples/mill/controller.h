@@ -8,6 +8,7 @@
 #ifndef CONTROLLER_H
 #define CONTROLLER_H
 
+#include <stdbool.h>
 #include <stdint.h>
 
 #include "readings.h"
@@ -29,9 +30,10 @@ struct Controller controller_at_start(void);
 struct Controller controller_at_tension(double tension, double setpoint, int32_t newton);
 
 /*
- * One period: the readings in, the command for the next period out. The result is 0, or the number by which the law refused; then the
- * command is as it was.
+ * One period: the readings in, the command for the next period out, and whether it is limited: not what the gains alone would give, since
+ * clamping or a limit changed a value in the update or in the command. The result is 0, or the number by which the law refused; then both
+ * are as they were.
  */
-uint32_t controller_step(struct Controller *controller, const struct Readings *readings, int32_t *command);
+uint32_t controller_step(struct Controller *controller, const struct Readings *readings, int32_t *command, bool *limited);
 
 #endif

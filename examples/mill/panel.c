@@ -4,6 +4,8 @@
 #include <stdio.h>
 
 #define SMALLEST_STEP 0.5 /* pixels that are worth a point of their own */
+#define STROKE 5.0        /* pixels: how high a stroke is, as the style says .. */
+#define NARROWEST 2.0     /* .. and how wide at least */
 
 static const char style[] =
     "<style>\n"
@@ -13,6 +15,7 @@ static const char style[] =
     ".grid { stroke: #e4e4e4 } .mark { stroke: #999; stroke-dasharray: 3 3 } .shade { fill: #f3dfb5 }\n"
     ".setpoint { stroke: #888; stroke-width: 1.2 } .tension { stroke: #1f5fa8; stroke-width: 1.4 }\n"
     ".command { stroke: #b4501e; stroke-width: 1.4 } .reading { stroke: #b5cde8; stroke-width: 1 }\n"
+    ".stop { stroke: #b4501e; stroke-width: 5 }\n"
     "</style>\n";
 
 void picture_head(int width, int height, const char *title)
@@ -90,6 +93,13 @@ void panel_mark(const struct Panel *panel, double x, const char *label)
     printf("<text class=\"label\" x=\"%.1f\" y=\"%.1f\">%s</text>\n", at_x(panel, x) + 4.0, panel->top + 14.0, label);
 }
 
+void panel_level(const struct Panel *panel, double y, const char *label)
+{
+    double right = panel->left + panel->width;
+    printf("<path class=\"mark\" d=\"M%.1f %.1fh%.1f\"/>", panel->left, at_y(panel, y), panel->width);
+    printf("<text class=\"label end\" x=\"%.1f\" y=\"%.1f\">%s</text>\n", right - 4.0, at_y(panel, y) - 4.0, label);
+}
+
 void panel_shade(const struct Panel *panel, double from, double to)
 {
     struct Panel stretch = *panel;
@@ -157,6 +167,38 @@ void panel_curve(const struct Panel *panel, const struct Record *record, Column 
     printf("<path class=\"%s\" clip-path=\"url(#panel%d)\" d=\"", class, panel->number);
     while (i < record->count) {
         i = is_drawn(panel, &record->rows[i], x, y) ? write_part(panel, record, i, x, y) : i + 1;
+    }
+    printf("\"/>\n");
+}
+
+/* The row after a stretch of marked rows that begins at row i; row i itself where it has no mark. */
+static size_t end_of_stretch(const struct Record *record, size_t i, Column mark)
+{
+    while (i < record->count && mark(&record->rows[i]) != 0.0) {
+        i++;
+    }
+    return i;
+}
+
+static void write_stroke(const struct Panel *panel, double from, double to)
+{
+    if (panel->x_low <= to && from <= panel->x_high) {
+        double y = panel->top + panel->height - STROKE / 2.0;
+        printf("M%.1f %.1fh%.1f\n", at_x(panel, from), y, fmax(at_x(panel, to) - at_x(panel, from), NARROWEST));
+    }
+}
+
+/* A row's mark holds until the next row: a stroke ends where the row after its stretch stands. */
+void panel_strokes(const struct Panel *panel, const struct Record *record, Column x, Column mark, const char *class)
+{
+    printf("<path class=\"%s\" clip-path=\"url(#panel%d)\" d=\"", class, panel->number);
+    for (size_t i = 0; i < record->count; i++) {
+        size_t end = end_of_stretch(record, i, mark);
+        if (i < end) {
+            size_t next = end < record->count ? end : end - 1;
+            write_stroke(panel, x(&record->rows[i]), x(&record->rows[next]));
+            i = end;
+        }
     }
     printf("\"/>\n");
 }

@@ -23,8 +23,9 @@ void panel_frame(const struct Panel *panel, const char *title, const char *x_nam
 void panel_x_ticks(const struct Panel *panel, double step, int decimals);
 void panel_y_ticks(const struct Panel *panel, double step);
 
-/* A line at x with a label beside its upper end. */
+/* A line at x with a label beside its upper end, and one at y with a label above its right end. */
 void panel_mark(const struct Panel *panel, double x, const char *label);
+void panel_level(const struct Panel *panel, double y, const char *label);
 
 /* A stretch of the x axis, shaded. */
 void panel_shade(const struct Panel *panel, double from, double to);
@@ -35,7 +36,10 @@ void panel_shade(const struct Panel *panel, double from, double to);
  */
 void panel_curve(const struct Panel *panel, const struct Record *record, Column x, Column y, const char *class);
 
-/* A sample of a curve and its name, at a place of the picture. */
+/* A stroke at the lower edge for each stretch of rows whose mark is not 0, wide enough for a single row to be seen. */
+void panel_strokes(const struct Panel *panel, const struct Record *record, Column x, Column mark, const char *class);
+
+/* A sample of a curve or a stroke and its name, at a place of the picture. */
 void panel_key(double x, double y, const char *class, const char *name);
 
 #endif

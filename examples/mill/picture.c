@@ -3,6 +3,7 @@
 #include <stdio.h>
 
 #include "columns.h"
+#include "controller.h"
 #include "line.h"
 #include "panel.h"
 #include "plant.h"
@@ -36,6 +37,12 @@ static void mark_events(const struct Panel *panel)
     panel_mark(panel, wound_length(FULL_RADIUS) - RAMP_LENGTH, "slowing");
 }
 
+/* The stop is the highest command; none of this roll comes near the lowest. */
+static void mark_stop(const struct Panel *panel)
+{
+    panel_level(panel, (double)controller_at_start().law.high[0] / NEWTON, "stop");
+}
+
 static void write_tension(const struct Record *record)
 {
     struct Panel panel = whole_roll(1, 72.0, 200.0);
@@ -57,8 +64,12 @@ static void write_command(const struct Record *record)
     panel_y_ticks(&panel, 40.0);
     panel_x_ticks(&panel, 250.0, 0);
     mark_events(&panel);
+    mark_stop(&panel);
     panel_curve(&panel, record, length_of, command_of, "command");
+    panel_strokes(&panel, record, length_of, limited_of, "stop");
     panel_frame(&panel, "Command: force at the roll's surface", "web wound, m", "N");
+    panel_key(738.0, 331.0, "command", "command");
+    panel_key(844.0, 331.0, "stop", "at its stop");
 }
 
 /* Shades the time in which the tension is not read. */
@@ -70,7 +81,7 @@ static void shade_unread(const struct Panel *panel, const struct Record *record)
     }
 }
 
-/* The tension in the two seconds around an event: place 0 to 3 in the lowest row of panels. */
+/* Tension and command in the two seconds around an event: place 0 to 3 in the lowest row of panels. */
 static void write_detail(const struct Record *record, int place, const char *title, double from, double y_low, double y_step)
 {
     struct Panel panel = {
@@ -84,6 +95,8 @@ static void write_detail(const struct Record *record, int place, const char *tit
     panel_curve(&panel, record, time_of, reading_of, "reading");
     panel_curve(&panel, record, time_of, setpoint_of, "setpoint");
     panel_curve(&panel, record, time_of, tension_of, "tension");
+    panel_curve(&panel, record, time_of, command_of, "command");
+    panel_strokes(&panel, record, time_of, limited_of, "stop");
     panel_frame(&panel, title, "time, s", "N");
 }
 

@@ -4,7 +4,10 @@
 
 #include "record.h"
 
-/* Writes an SVG: tension and command over the web wound, and the tension in the seconds after four events. */
+/*
+ * Writes an SVG: tension and command over the web wound and in the seconds around four events, with strokes where the command is at its
+ * stop.
+ */
 void write_picture(const struct Record *record);
 
 #endif

@@ -21,7 +21,8 @@ struct Row {
     bool present;                     /* whether the law got a tension */
     struct Sent sent;                 /* reading and setpoint, as they are sent */
     int32_t state[WINDER_STATES_MAX]; /* of the controller before the period */
-    int32_t command_count;            /* the command, as the law gives it */
+    int32_t command_count;            /* the command, as the law gives it .. */
+    bool limited;                     /* .. and whether it is not what the gains alone would give */
 };
 
 struct Record {

@@ -58,7 +58,7 @@ static uint32_t one_period(struct Resting *resting, Division divide, struct Row 
     if (divide != NULL) {
         row->command_count = law_by(divide, &controller->law, &readings, controller->state);
     } else {
-        refusal = controller_step(controller, &readings, &row->command_count);
+        refusal = controller_step(controller, &readings, &row->command_count, &row->limited);
     }
     row->command = (double)row->command_count / TENTHS;
     move_on(resting);

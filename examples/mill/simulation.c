@@ -67,7 +67,7 @@ static uint32_t one_period(struct Winder *winder, struct Row *row, double now)
     struct Readings readings = converted(row->sent);
     row->present = readings.present[TENSION_READ];
     memcpy(row->state, winder->controller.state, sizeof row->state);
-    uint32_t refusal = controller_step(&winder->controller, &readings, &row->command_count);
+    uint32_t refusal = controller_step(&winder->controller, &readings, &row->command_count, &row->limited);
     if (refusal != 0) {
         return refusal;
     }

@@ -9,16 +9,16 @@ static void write_quantities(const struct Row *row)
            row->reading, row->splice, row->present, row->command);
 }
 
-/* Readings and command as they are sent, to the last digit. */
+/* Readings and command as they are sent, to the last digit, and the command's mark. */
 static void write_sent(const struct Row *row)
 {
-    printf(",%08lx,%ld,%ld\n", (unsigned long)row->sent.tension, (long)row->sent.setpoint, (long)row->command_count);
+    printf(",%08lx,%ld,%ld,%d\n", (unsigned long)row->sent.tension, (long)row->sent.setpoint, (long)row->command_count, row->limited);
 }
 
 void write_table(const struct Record *record)
 {
     printf("time_s,length_m,radius_m,speed_m_s,setpoint_n,tension_n,reading_n,splice,present,command_n,"
-           "reading_bits,setpoint_count,command_count\n");
+           "reading_bits,setpoint_count,command_count,limited\n");
     for (size_t i = 0; i < record->count; i++) {
         write_quantities(&record->rows[i]);
         write_sent(&record->rows[i]);

@@ -1,6 +1,7 @@
 -- What the frames' calls answer and leave, in Rattle and for C programs. Assumes nothing.
 use mathlib.Core.Path.{_≡_, refl, sym, ap, _∙_}
 use mathlib.Core.Logic.{inl}
+use mathlib.Core.Bool.{Bool}
 use mathlib.Core.List.{List, []}
 use Prim.Native.Nat.{ℕ}
 use lib.Dec.{T}
@@ -63,9 +64,9 @@ module _ (p : ℕ) (bytes : List ℕ) where
       (λ z. command ∙ no-command-read p bytes _ (positive _ z))
 
   pub read-command-area-answers : (areas : CommandAreas) → ReadCommandAreaAnswers p bytes areas
-  read-command-area-answers areas r areas′ e period commands =
+  read-command-area-answers areas r areas′ e period commands limited =
       answers reading tt r (readCommandRefusal p bytes) e reading-command-in (areas′ ≡ areas)
-      (λ z i. record { period = left _ _ _ _ z period i; commands = left _ _ _ _ z commands i })
+      (λ z i. record { period = left _ _ _ _ z period i; commands = left _ _ _ _ z commands i; limited = left _ _ _ _ z limited i })
 
 -- ---- writing
 
@@ -93,12 +94,12 @@ write-area-answers n m f areas r areas′ e area count =
       length = (count ∙ sym (refused (writeRefusal n m f (areas .area)) (length (written n m f (areas .area))) (areas .length) z)) i;
     })
 
-module _ (p period : ℕ) (values : List ℤ) (area : List ℕ) where
+module _ (p period : ℕ) (values : List ℤ) (limited : Bool) (area : List ℕ) where
   command-in : In (numbered (commandRefusal p area)) writingCommand
   unfolding commandRefusal
   command-in = first-in writingCommand (inl refl) _ tt
 
-  pub write-command-answers : WriteAnswers writingCommand (commandRefusal p area) (commandWritten p period values area) area
+  pub write-command-answers : WriteAnswers writingCommand (commandRefusal p area) (commandWritten p period values limited area) area
   write-command-answers =
-      write-answers-of writingCommand tt (commandRefusal p area) command-in (commandWritten p period values area) area
-      (λ z. no-command p area period values _ (positive _ z))
+      write-answers-of writingCommand tt (commandRefusal p area) command-in (commandWritten p period values limited area) area
+      (λ z. no-command p area period values limited _ (positive _ z))

@@ -1,6 +1,7 @@
 -- What the law's calls answer and leave, in Rattle and for C programs. Assumes nothing.
 use mathlib.Core.Path.{_≡_, refl, sym, _∙_}
 use mathlib.Core.Logic.{inl}
+use mathlib.Core.Bool.{false}
 use mathlib.Core.List.{List}
 use Prim.Native.Nat.{ℕ}
 use lib.ListN.{replicate}
@@ -11,7 +12,7 @@ use Rattle.law.specs.declared.Settings.{Settings}
 use Rattle.law.specs.Answer.{number}
 use Rattle.law.specs.Settings.{refusals, refusal}
 use Rattle.law.specs.Law.{commanded}
-use Rattle.law.proofs.Laws.{updated-refused, commanded-refused}
+use Rattle.law.proofs.Laws.{updated-refused, update-limited-refused, commanded-refused, command-limited-refused}
 use Rattle.winder.specs.LawAreas.{readingsOf}
 use Rattle.winder.proofs.Refused.{refused}
 use Rattle.answers.specs.Answers.{numbered, usingLaw}
@@ -27,22 +28,21 @@ module _ (s : Settings) where
   check-answers r e = answers usingLaw tt (number r) (refusal s) e law-in (Unit {0}) (λ _. tt)
 
   pub update-answers : (x : List ℤ) (y : Readings) → UpdateAnswers s x y
-  update-answers x y r e state =
-      answers usingLaw tt (number (r .answer)) (refusal s) e law-in (r .state ≡ x) (λ n. state ∙ sym (updated-refused s x y n))
+  update-answers x y r e state mark =
+      answers usingLaw tt (number (r .answer)) (refusal s) e law-in ((r .state ≡ x) × (r .limited ≡ false))
+      (λ n. (state ∙ sym (updated-refused s x y n), mark ∙ sym (update-limited-refused s x y n)))
 
-  -- commands that are 0 where the settings are refused
-  command-answers : (values : List ℤ) → ((refusal s ≡ 0 → ⊥) → replicate 4 (pos 0) ≡ values) → CommandAnswers s values
-  command-answers values zeros r e same =
-      answers usingLaw tt (number (r .answer)) (refusal s) e law-in (r .values ≡ replicate 4 (pos 0)) (λ n. same ∙ sym (zeros n))
+  pub commanded-answers : (x : List ℤ) → CommandAnswers s x
+  commanded-answers x r e values mark =
+      answers usingLaw tt (number (r .answer)) (refusal s) e law-in ((r .values ≡ replicate 4 (pos 0)) × (r .limited ≡ false))
+      (λ n. (values ∙ sym (commanded-refused s x n), mark ∙ sym (command-limited-refused s x n)))
 
-  pub commanded-answers : (x : List ℤ) → CommandAnswers s (commanded s x)
-  commanded-answers x = command-answers (commanded s x) (commanded-refused s x)
+  pub update-area-answers : (present : List ℕ) (values state : List ℤ) (limited : ℕ) → UpdateAreaAnswers s present values state limited
+  update-area-answers present values state limited r state′ limited′ e same mark =
+      answers usingLaw tt r (refusal s) e law-in ((state′ ≡ state) × (limited′ ≡ limited))
+      (λ n. (same ∙ sym (updated-refused s state (readingsOf present values) n), mark ∙ sym (refused (refusal s) _ limited n)))
 
-  pub update-area-answers : (present : List ℕ) (values state : List ℤ) → UpdateAreaAnswers s present values state
-  update-area-answers present values state r state′ e same =
-      answers usingLaw tt r (refusal s) e law-in (state′ ≡ state) (λ n. same ∙ sym (updated-refused s state (readingsOf present values) n))
-
-  pub command-area-answers : (state commands : List ℤ) → CommandAreaAnswers s state commands
-  command-area-answers state commands r commands′ e same =
-      answers usingLaw tt r (refusal s) e law-in (commands′ ≡ commands)
-      (λ n. same ∙ sym (refused (refusal s) (commanded s state) commands n))
+  pub command-area-answers : (state commands : List ℤ) (limited : ℕ) → CommandAreaAnswers s state commands limited
+  command-area-answers state commands limited r commands′ limited′ e same mark =
+      answers usingLaw tt r (refusal s) e law-in ((commands′ ≡ commands) × (limited′ ≡ limited))
+      (λ n. (same ∙ sym (refused (refusal s) (commanded s state) commands n), mark ∙ sym (refused (refusal s) _ limited n)))

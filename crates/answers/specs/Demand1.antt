@@ -4,6 +4,7 @@
 -- not named, since nothing can write them. A call that refuses nothing and ignores nothing, as winder_convert_single, has no answer to speak of.
 use Prim.Native.Nat.{ℕ}
 use mathlib.Core.Path.{_≡_}
+use mathlib.Core.Bool.{Bool, false}
 use mathlib.Core.List.{List, []}
 use lib.ListN.{length, replicate}
 use lib.IntN.{ℤ, pos}
@@ -19,8 +20,9 @@ use Rattle.law.specs.declared.Updated.{Updated}
 use Rattle.law.specs.declared.Commanded.{Commanded}
 use Rattle.law.specs.Answer.{number as lawNumber}
 use Rattle.law.specs.Settings.{refusal, settingsOf}
-use Rattle.law.specs.Law.{updated, commanded}
+use Rattle.law.specs.Law.{updated, updateLimited, commanded, commandLimited}
 use Rattle.bytes.specs.Areas.{over}
+use Rattle.estimate.specs.Marks.{bit}
 use Rattle.frame.specs.declared.Frame.{Frame}
 use Rattle.frame.specs.declared.Parsed.{Parsed}
 use Rattle.frame.specs.declared.ParsedCommand.{ParsedCommand}
@@ -40,7 +42,7 @@ use Rattle.pages.specs.Writing.{writeRefusal as pageRefusal, written as pageWri
 use Rattle.pages.specs.Reading.{readRefusal as readPageRefusal, readEntries, pageOf}
 use Rattle.winder.specs.Areas.{unlessRefused}
 use Rattle.winder.specs.PageAreas.{lengthAfter as pageLengthAfter}
-use Rattle.winder.specs.LawAreas.{readingsOf, commandsAfter}
+use Rattle.winder.specs.LawAreas.{readingsOf, updateMarkAfter, commandsAfter, commandMarkAfter}
 use Rattle.winder.specs.FrameAreas.{frameOf, kindAndSenderOf, countersOf, marksOf, lengthAfter}
 use Rattle.winder.specs.Answers.{numberOf}
 use Rattle.winder.specs.ReplicaAreas.{settingsOf as replicaSettingsOf, stepAt, Steps, recordingRefusal, returningRefusal}
@@ -89,16 +91,17 @@ StepAnswers possible given o frame command =
 abbrev pub CheckAnswers : Law.Settings → Type 0
 CheckAnswers s = (r : LawAnswer) → lawNumber r ≡ refusal s → Answers usingLaw (numbered (lawNumber r)) (Unit {0})
 
--- an update: refused, it gives the state handed in
+-- an update: refused, it gives the state handed in, and no mark
 abbrev pub UpdateAnswers : Law.Settings → List ℤ → Readings → Type 0
 UpdateAnswers s x y =
-    (r : Updated) → lawNumber (r .answer) ≡ refusal s → r .state ≡ updated s x y → Answers usingLaw (numbered (lawNumber (r .answer))) (r .state ≡ x)
+    (r : Updated) → lawNumber (r .answer) ≡ refusal s → r .state ≡ updated s x y → r .limited ≡ updateLimited s x y
+    → Answers usingLaw (numbered (lawNumber (r .answer))) ((r .state ≡ x) × (r .limited ≡ false))
 
--- the commands of a state, or of the state after a period: refused, each place holds 0
+-- the commands of a state: refused, each place holds 0, and there is no mark
 abbrev pub CommandAnswers : Law.Settings → List ℤ → Type 0
-CommandAnswers s values =
-    (r : Commanded) → lawNumber (r .answer) ≡ refusal s → r .values ≡ values
-    → Answers usingLaw (numbered (lawNumber (r .answer))) (r .values ≡ replicate 4 (pos 0))
+CommandAnswers s x =
+    (r : Commanded) → lawNumber (r .answer) ≡ refusal s → r .values ≡ commanded s x → r .limited ≡ commandLimited s x
+    → Answers usingLaw (numbered (lawNumber (r .answer))) ((r .values ≡ replicate 4 (pos 0)) × (r .limited ≡ false))
 
 -- ---- the frames' calls
 
@@ -184,14 +187,18 @@ TicketedAnswers possible given o frame command =
 -- ---- the calls of C programs: they answer by the number alone
 
 -- winder_update
-abbrev pub UpdateAreaAnswers : Law.Settings → (present : List ℕ) (values state : List ℤ) → Type 0
-UpdateAreaAnswers s present values state =
-    (r : ℕ) (state′ : List ℤ) → r ≡ refusal s → state′ ≡ updated s state (readingsOf present values) → Answers usingLaw (numbered r) (state′ ≡ state)
+abbrev pub UpdateAreaAnswers : Law.Settings → (present : List ℕ) (values state : List ℤ) (limited : ℕ) → Type 0
+UpdateAreaAnswers s present values state limited =
+    (r : ℕ) (state′ : List ℤ) (limited′ : ℕ) → r ≡ refusal s → state′ ≡ updated s state (readingsOf present values)
+    → limited′ ≡ updateMarkAfter s state (readingsOf present values) limited
+    → Answers usingLaw (numbered r) ((state′ ≡ state) × (limited′ ≡ limited))
 
 -- winder_command
-abbrev pub CommandAreaAnswers : Law.Settings → (state commands : List ℤ) → Type 0
-CommandAreaAnswers s state commands =
-    (r : ℕ) (commands′ : List ℤ) → r ≡ refusal s → commands′ ≡ commandsAfter s state commands → Answers usingLaw (numbered r) (commands′ ≡ commands)
+abbrev pub CommandAreaAnswers : Law.Settings → (state commands : List ℤ) (limited : ℕ) → Type 0
+CommandAreaAnswers s state commands limited =
+    (r : ℕ) (commands′ : List ℤ) (limited′ : ℕ) → r ≡ refusal s → commands′ ≡ commandsAfter s state commands
+    → limited′ ≡ commandMarkAfter s state limited
+    → Answers usingLaw (numbered r) ((commands′ ≡ commands) × (limited′ ≡ limited))
 
 -- winder_read_frame
 abbrev pub ReadAreaAnswers : (n m : ℕ) → List ℕ → FrameAreas → Type 0
@@ -210,6 +217,7 @@ ReadCommandAreaAnswers p bytes areas =
     (r : ℕ) (areas′ : CommandAreas) → r ≡ readCommandRefusal p bytes
     → areas′ .period ≡ unlessRefused (readCommandRefusal p bytes) (readCommand p bytes .period) (areas .period)
     → areas′ .commands ≡ unlessRefused (readCommandRefusal p bytes) (readCommand p bytes .values) (areas .commands)
+    → areas′ .limited ≡ unlessRefused (readCommandRefusal p bytes) (bit (readCommand p bytes .limited)) (areas .limited)
     → Answers reading (numbered r) (areas′ ≡ areas)
 
 -- winder_write_frame, of the frame f in the areas that the caller lends to read
@@ -294,17 +302,16 @@ pub record DemandOne : Type 0 where
   -- crate law, on settings
   pub check : (s : Law.Settings) → CheckAnswers s
   pub update : (s : Law.Settings) (x : List ℤ) (y : Readings) → UpdateAnswers s x y
-  pub command : (s : Law.Settings) (x : List ℤ) → CommandAnswers s (commanded s x)
+  pub command : (s : Law.Settings) (x : List ℤ) → CommandAnswers s x
   -- crate law, on tables
   pub tables-check : (n m p : ℕ) (a l c k low high : List ℤ) → CheckAnswers (settingsOf n m p a l c k low high)
   pub tables-update : (n m p : ℕ) (a l c k low high x : List ℤ) (y : Readings) → UpdateAnswers (settingsOf n m p a l c k low high) x y
-  pub tables-command : (n m p : ℕ) (a l c k low high x : List ℤ)
-      → let s = settingsOf n m p a l c k low high in CommandAnswers s (commanded s x)
+  pub tables-command : (n m p : ℕ) (a l c k low high x : List ℤ) → CommandAnswers (settingsOf n m p a l c k low high) x
   -- crate frame
   pub read : (n m : ℕ) (bytes : List ℕ) → ReadAnswers n m bytes
   pub write : (n m : ℕ) (f : Frame) (area : List ℕ) → WriteAnswers writing (writeRefusal n m f area) (written n m f area) area
-  pub write-command : (p period : ℕ) (values : List ℤ) (area : List ℕ)
-      → WriteAnswers writingCommand (commandRefusal p area) (commandWritten p period values area) area
+  pub write-command : (p period : ℕ) (values : List ℤ) (limited : Bool) (area : List ℕ)
+      → WriteAnswers writingCommand (commandRefusal p area) (commandWritten p period values limited area) area
   pub read-command : (p : ℕ) (bytes : List ℕ) → ReadCommandAnswers p bytes
   -- crate pages
   pub write-page : (p : ℕ) (words area : List ℕ) → WritePageAnswers p (entriesOf words) area
@@ -329,10 +336,10 @@ pub record DemandOne : Type 0 where
   pub ticketed-arrive : (given : Ticketed) (bytes frame command : List ℕ)
       → TicketedAnswers arriving given (arriveOutcome (given .replica) bytes (length frame) (length command)) frame command
   -- crate winder
-  pub winder-update : (n m p : ℕ) (a l c k low high : List ℤ) (present : List ℕ) (values state : List ℤ)
-      → UpdateAreaAnswers (settingsOf n m p a l c k low high) present values state
-  pub winder-command : (n m p : ℕ) (a l c k low high state commands : List ℤ)
-      → CommandAreaAnswers (settingsOf n m p a l c k low high) state commands
+  pub winder-update : (n m p : ℕ) (a l c k low high : List ℤ) (present : List ℕ) (values state : List ℤ) (limited : ℕ)
+      → UpdateAreaAnswers (settingsOf n m p a l c k low high) present values state limited
+  pub winder-command : (n m p : ℕ) (a l c k low high state commands : List ℤ) (limited : ℕ)
+      → CommandAreaAnswers (settingsOf n m p a l c k low high) state commands limited
   pub winder-read-frame : (n m : ℕ) (bytes : List ℕ) (areas : FrameAreas) → ReadAreaAnswers n m bytes areas
   pub winder-read-command : (p : ℕ) (bytes : List ℕ) (areas : CommandAreas) → ReadCommandAreaAnswers p bytes areas
   pub winder-write-frame : (n m : ℕ) (kindAndSender counters : List ℕ) (state : List ℤ) (present : List ℕ) (values : List ℤ) (areas : WriteAreas)

@@ -90,10 +90,11 @@ pub record FrameAreas : Type 0 where
   pub present : List ℕ
   pub values : List ℤ
 
--- the two areas that a command is read to
+-- the three areas that a command is read to
 pub record CommandAreas : Type 0 where
   pub period : ℕ
   pub commands : List ℤ
+  pub limited : ℕ
 
 -- the area that a frame or a page is written to, and the caller's number for its length
 pub record WriteAreas : Type 0 where

@@ -1,4 +1,4 @@
--- The four histories compute, and demand 3 speaks of them. Assumes nothing.
+-- The five histories compute, and demand 3 speaks of them. Assumes nothing.
 use Prim.Native.Nat.{ℕ, _≤_}
 use mathlib.Core.Path.{_≡_, refl, sym, ap, _∙_, subst}
 use mathlib.Core.Logic.{_⊎_, inl, inr}
@@ -7,17 +7,17 @@ use native.Mathlib.Omega.{arith}
 use lib.Dec.{lit<, lit≤}
 use lib.Ieee.{isNan, toBits}
 use Rattle.lists.specs.Choice.{pick}
-use Rattle.lists.specs.Below.{allBelow}
+use Rattle.lists.specs.Below.{allBelow, anyBelow}
 use Rattle.lists.specs.Places.{filled}
 use Rattle.lists.specs.Refusals.{firstOf}
 use Rattle.bytes.specs.Words.{littleEndian, spelled, numberAt, twosComplement, fromTwosComplement, valuesBytes, valueAt}
 use Rattle.readings.specs.Readings.{normalised, anyMark, markBeyond}
 use Rattle.transmitters.specs.Single.{exponent, magnitude, scale, floor, inUnits}
 use Rattle.transmitters.specs.Conversion.{withinI32, convertedSingle, convertedNewtons, converted, convertedRow}
-use Rattle.law.specs.Fixed.{divided, sum, limited, clamp}
+use Rattle.law.specs.Fixed.{divided, sum, limited, clamp, limitsChange, clampChanges}
 use Rattle.law.specs.Settings.{sizesInRange, inRange, tableInRange, coefficientsInRange, limitsInOrder, refusals, refusal}
 use Rattle.law.specs.Law as Law
-use Rattle.law.specs.Law.{e, next, updated, commanded, issued}
+use Rattle.law.specs.Law.{e, eChanged, next, nextChanged, commandChanged, updated, updateLimited, commanded, commandLimited, issued}
 use Rattle.estimate.specs.Marks.{marksByte, marksIn, marksBelow, absentZero}
 use Rattle.estimate.specs.Reading.{stateIn, readingsIn, readingsOk, estimateAt, estimateOk}
 use Rattle.estimate.specs.Format.{stateBytes, readingsBytes, estimateBytes}
@@ -41,6 +41,7 @@ use Rattle.setup.specs.Bench.{benchLaw}
 use Rattle.cases.specs.Histories.{first-i32, Line, linesFrom, linesOf, commandsOf, Witness}
 use Rattle.cases.specs.Histories.{benchEntries, benchLines, benchCommands, openEntries, openLines, openCommands}
 use Rattle.cases.specs.Histories.{decidedEntries, decidedLines, decidedCommands, singleEntries, singleLines, singleCommands}
+use Rattle.cases.specs.Histories.{limitedEntries, limitedLines, limitedCommands}
 
 -- ---- the lines and the commands, computed
 
@@ -54,17 +55,19 @@ Computes h lines commands = (linesOf h ≡ lines) × (commandsOf h ≡ commands)
 
 computed : Computes benchEntries benchLines benchCommands × Computes openEntries openLines openCommands
     × Computes decidedEntries decidedLines decidedCommands × Computes singleEntries singleLines singleCommands
+    × Computes limitedEntries limitedLines limitedCommands
 unfolding linesFrom after steps step checked stepRefusal tickOutcome giveUpOutcome arriveOutcome
     raise afterTick tick giveUp hearAck hearEstimate receive arrive arrival better badSender badPlace badBase unwanted
     majority coordinator beats count
     settingsRefusal badGroup firstOf refusals refusal pick sizesInRange coefficientsInRange tableInRange allBelow inRange limitsInOrder
     updated commanded issued e next Law.command sum divided limited clamp filled normalised anyMark markBeyond
+    updateLimited commandLimited eChanged nextChanged commandChanged limitsChange clampChanges anyBelow
     found kindOf readRefusal readFrame fieldsIn isFrame headerOk partsOk lengthOk partCountOk byteThreeOk pairsOk sizesOk kindOk partCount hasParts
     partsOf anyOf stateIn readingsIn readingsOk estimateAt estimateOk marksByte marksIn marksBelow absentZero
     frameBytes header pairs estimateBytes stateBytes readingsBytes commandBytes
     littleEndian spelled numberAt twosComplement fromTwosComplement valuesBytes valueAt
     convertedRow converted convertedNewtons convertedSingle withinI32 inUnits floor scale magnitude exponent isNan toBits
-computed = ((refl, refl), (refl, refl), (refl, refl), (refl, refl))
+computed = ((refl, refl), (refl, refl), (refl, refl), (refl, refl), (refl, refl))
 
 -- ---- the last decided period
 
@@ -109,7 +112,7 @@ none-later : (k : ℕ) (l : List (List ℕ)) → NoneLater k l → (b : List ℕ
 none-later k (c ∷ l) h b (inl q) = subst (λ b. commandPeriod b ≤ k) (sym q) (h .0)
 none-later k (c ∷ l) h b (inr p) = none-later k l (h .1) b p
 
--- ---- the four histories
+-- ---- the five histories
 
 -- the newest command is of the last period
 witness : (h : List (Entry Handed Areas)) (lines : List Line) (newest : List ℕ) (others : List (List ℕ)) (k : ℕ) → Computes h lines (newest ∷ others)
@@ -140,3 +143,7 @@ decision-kept = witness decidedEntries decidedLines _ _ 2 (computed .2) refl (li
 pub singles-converted : Witness singleEntries singleLines singleCommands 2
 unfolding commandPeriod numberAt spelled
 singles-converted = witness singleEntries singleLines _ _ 2 (computed .3) refl (lit≤ tt, (lit≤ tt, tt))
+
+pub marked-where-clamped : Witness limitedEntries limitedLines limitedCommands 3
+unfolding commandPeriod numberAt spelled
+marked-where-clamped = witness limitedEntries limitedLines _ _ 3 (computed .4) refl (lit≤ tt, (lit≤ tt, (lit≤ tt, tt)))

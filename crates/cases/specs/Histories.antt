@@ -1,5 +1,5 @@
--- Four histories of document 01 over the bench's law, on bytes: its example of the bench, two take-overs, and readings that come as singles. The
--- line of each entry is written out, and so are the commands that demand 3 speaks of: nobody need wonder whether its premises can be met.
+-- Five histories of document 01 over the bench's law, on bytes: its example of the bench, two take-overs, readings that come as singles, and one whose
+-- second command is marked. The line of each entry is written out, and so are the commands that demand 3 speaks of: nobody need wonder whether its premises can be met.
 use Prim.Native.Nat.{ℕ, zero, suc, _<_}
 use mathlib.Core.Path.{_≡_, refl}
 use mathlib.Core.Bool.{true, false}
@@ -58,6 +58,10 @@ areas = record { frame = replicate longestFrame 0; command = replicate longestCo
 -- `T r y`
 abbrev T : ℕ → (y : ℕ) → y < 2147483648 → Entry Handed Areas
 T box y h = record { box = box; event = Tick (handed (Count (pos y)) (record { sfits = h })); areas = areas }
+
+-- `T r -2147483648`
+abbrev lowest : ℕ → Entry Handed Areas
+lowest box = record { box = box; event = Tick (handed (Count (negsuc 2147483647)) (record { sfits = lit< tt })); areas = areas }
 
 -- `T r -`: "`-` for absent"
 abbrev absent : ℕ → Entry Handed Areas
@@ -133,7 +137,7 @@ line who answer k v vb kb x frame command = record {
   command = command;
 }
 
--- the command of a period with a value, both below 256: "byte 0 is 5, byte 1 is p, bytes 2 and 3 zero, period at 4, p i32 values from 8"
+-- the command of a period with a value, both below 256, that is not marked: "byte 0 is 5, byte 1 is p, bytes 2 and 3 zero, period at 4, p i32 values from 8"
 abbrev pub command : ℕ → ℕ → List ℕ
 command period value = 5 ∷ 1 ∷ 0 ∷ 0 ∷ period ∷ 0 ∷ 0 ∷ 0 ∷ value ∷ 0 ∷ 0 ∷ 0 ∷ []
 
@@ -283,3 +287,43 @@ singleLines =
 -- 24, and not 25: −2^-17 N is rounded toward minus infinity
 abbrev pub singleCommands : List (List ℕ)
 singleCommands = command 2 24 ∷ command 1 50 ∷ []
+
+-- ---- a reading that is clamped
+
+-- Box 1 is handed the largest count, then the lowest one, then none; box 2 is handed none. e(1) of the largest is 2147483647, at its limit and unchanged, and
+-- the state goes to 1073741824. From there e(1) of the lowest is clamped, and the state comes back to 0, where it stays.
+abbrev pub limitedEntries : List (Entry Handed Areas)
+limitedEntries =
+    T 1 2147483647 (lit< tt) ∷ absent 2 ∷ D 2 0 ∷ D 1 2
+    ∷ lowest 1 ∷ absent 2 ∷ D 2 4 ∷ D 1 6
+    ∷ absent 1 ∷ absent 2 ∷ D 2 8 ∷ D 1 10
+    ∷ []
+
+-- 1073741824 in period 1: its highest byte is 64
+abbrev pub halfway : List ℕ
+halfway = 5 ∷ 1 ∷ 0 ∷ 0 ∷ 1 ∷ 0 ∷ 0 ∷ 0 ∷ 0 ∷ 0 ∷ 0 ∷ 64 ∷ []
+
+-- 0 in period 2, marked: "Byte 2 of the command is 1 if that occurred in the update .. it comes from"
+abbrev pub clamped : List ℕ
+clamped = 5 ∷ 1 ∷ 1 ∷ 0 ∷ 2 ∷ 0 ∷ 0 ∷ 0 ∷ 0 ∷ 0 ∷ 0 ∷ 0 ∷ []
+
+-- as with other readings
+abbrev pub limitedLines : List Line
+limitedLines =
+    line 1 Done 1 0 0 1 0 37 []
+    ∷ line 2 Done 1 0 0 0 0 0 []
+    ∷ line 2 Done 1 0 0 1 0 20 []
+    ∷ line 1 Done 1 0 0 1 0 37 halfway
+    ∷ line 1 Done 2 0 0 2 1073741824 37 []
+    ∷ line 2 Done 2 0 0 1 1073741824 0 []
+    ∷ line 2 Done 2 0 0 2 1073741824 20 []
+    ∷ line 1 Done 2 0 0 2 1073741824 37 clamped
+    ∷ line 1 Done 3 0 0 3 0 37 []
+    ∷ line 2 Done 3 0 0 2 0 0 []
+    ∷ line 2 Done 3 0 0 3 0 20 []
+    ∷ line 1 Done 3 0 0 3 0 37 (command 3 0)
+    ∷ []
+
+-- command 3 is of the state that command 2 is of, and is not marked
+abbrev pub limitedCommands : List (List ℕ)
+limitedCommands = command 3 0 ∷ clamped ∷ halfway ∷ []

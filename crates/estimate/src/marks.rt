@@ -6,7 +6,7 @@ ghost use Rattle.estimate.specs.Marks.{bit, marksByte, marksIn, marksBel
 ghost use Rattle.estimate.specs.Format.{writable};
 use readings::Readings;
 
-fn bit_of(mark: bool) -> u8
+pub fn bit_of(mark: bool) -> u8
     ensures { λ r. ⌜ (r ≡ bit mark) × (r ≤ 1) ⌝ }
 {
     if mark { 1 } else { 0 }

@@ -6,7 +6,7 @@ use Prim.Native.Nat.{ℕ, suc, _≤_}
 use native.Mathlib.Omega.{arith}
 use lib.ListN.{length, getD}
 use lib.Dec.{eqb, leb, eqb·suc-zero}
-use borrow.Author.Tests.{eq-eqb, eqb-true, leb-true}
+use borrow.Author.Tests.{eq-eqb, eqb-true, le-leb, leb-true}
 use Rattle.lists.proofs.Booleans.{both}
 use Rattle.lists.proofs.Choice.{pick-true, pick-false}
 use Rattle.lists.proofs.Refusals.{none-holds, first-holds, first-fails}
@@ -24,7 +24,7 @@ pub record CommandBytes (p : ℕ) (b : List ℕ) : Type 0 where
   pub len : length b ≡ commandLength p
   pub five : getD b 0 0 ≡ 5
   pub count : getD b 1 0 ≡ p
-  pub zero-two : getD b 2 0 ≡ 0
+  pub mark-two : getD b 2 0 ≤ 1
   pub zero-three : getD b 3 0 ≡ 0
 
 module _ (p : ℕ) (b : List ℕ) where
@@ -34,19 +34,19 @@ module _ (p : ℕ) (b : List ℕ) where
       let l = both (eqb (length b) (commandLength p)) _ e in
       let f = both (eqb (getD b 0 0) 5) _ (l .1) in
       let c = both (eqb (getD b 1 0) p) _ (f .1) in
-      let z = both (eqb (getD b 2 0) 0) _ (c .1) in
+      let z = both (leb (getD b 2 0) 1) _ (c .1) in
       record {
         len = eqb-true _ _ (l .0);
         five = eqb-true _ _ (f .0);
         count = eqb-true _ _ (c .0);
-        zero-two = eqb-true _ _ (z .0);
+        mark-two = leb-true _ _ (z .0);
         zero-three = eqb-true _ _ (z .1);
       }
 
   pub command-holds : CommandBytes p b → isCommand p b ≡ true
   unfolding isCommand
   command-holds h =
-      rw (eq-eqb _ _ (h .len), eq-eqb _ _ (h .five), eq-eqb _ _ (h .count), eq-eqb _ _ (h .zero-two), eq-eqb _ _ (h .zero-three))
+      rw (eq-eqb _ _ (h .len), eq-eqb _ _ (h .five), eq-eqb _ _ (h .count), le-leb _ _ (h .mark-two), eq-eqb _ _ (h .zero-three))
 
   -- ---- the refusals
 

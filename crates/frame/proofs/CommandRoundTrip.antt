@@ -1,17 +1,20 @@
 -- The laws of reading and writing commands of p values. Assumes nothing.
 use mathlib.Core.Path.{_≡_, refl, sym, ap, _∙_}
-use mathlib.Core.Bool.{true}
+use mathlib.Core.Bool.{Bool, true, false}
 use mathlib.Core.List.{List, [], _∷_, _++_}
-use Prim.Native.Nat.{ℕ, _≤_}
+use Prim.Native.Nat.{ℕ, zero, suc, _≤_}
 use native.Mathlib.Omega.{arith}
-use lib.ListN.{length, take, drop, length-append, length-drop, take-append-drop}
+use lib.ListN.{length, getD, take, drop, length-append, length-drop, take-append-drop}
 use lib.Seq.{take-add}
 use lib.IntN.{pos}
+use lib.Dec.{eqb}
+use Rattle.lists.specs.Choice.{pick}
 use Rattle.lists.specs.Places.{filled}
 use Rattle.lists.proofs.Places.{filled-same, take-filled}
 use Rattle.bytes.specs.Words.{AllBytes, littleEndian, valuesBytes, valueAt}
 use Rattle.bytes.proofs.Numbers.{bytes-drop, first-four, length-littleEndian, number-back}
 use Rattle.bytes.proofs.ValueLists.{length-first, values-back}
+use Rattle.estimate.specs.Marks.{bit}
 use Rattle.estimate.proofs.EachPart.{values-forth}
 use Rattle.frame.specs.Sizes.{commandsOk}
 use Rattle.frame.specs.Lengths.{commandStart, commandLength}
@@ -23,7 +26,27 @@ use Rattle.frame.proofs.Commands.{period-read}
 
 -- the bytes of a command
 abbrev bytesOf : ℕ → CommandFields → List ℕ
-bytesOf p c = commandBytes p (c .period) (c .values)
+bytesOf p c = commandBytes p (c .period) (c .values) (c .limited)
+
+-- ---- the mark and its byte
+
+most-mark : (limited : Bool) → bit limited ≤ 1
+unfolding pick
+most-mark true = omega arith
+most-mark false = omega arith
+
+-- a mark is the mark of its byte
+mark-forth : (limited : Bool) → eqb (bit limited) 1 ≡ limited
+unfolding pick
+mark-forth true = refl
+mark-forth false = refl
+
+-- a byte that is 0 or 1 is that of its mark
+mark-back : (x : ℕ) → x ≤ 1 → bit (eqb x 1) ≡ x
+unfolding pick
+mark-back zero h = refl
+mark-back (suc zero) h = refl
+mark-back (suc (suc x)) h = absurd (omega arith)
 
 -- ---- from a command to its bytes and back
 
@@ -37,26 +60,31 @@ module _ (p : ℕ) (c : CommandFields) (t : TypedCommand c) (ok : commandsOk p �
 
   facts : CommandBytes p (bytesOf p c)
   unfolding commandBytes
-  facts = record { len = size; five = refl; count = refl; zero-two = refl; zero-three = refl }
+  facts = record { len = size; five = refl; count = refl; mark-two = most-mark (c .limited); zero-three = refl }
 
   after-period : drop commandStart (bytesOf p c) ≡ valuesBytes (take p (c .values))
   unfolding commandBytes littleEndian
   after-period = refl
 
+  marked : eqb (getD (bytesOf p c) 2 0) 1 ≡ c .limited
+  unfolding commandBytes
+  marked = mark-forth (c .limited)
+
   forth : commandIn p (bytesOf p c) ≡ carriedCommand p c
   unfolding commandIn carriedCommand
   forth =
-      let period = period-read p (c .period) (c .values) (t .period) in
+      let period = period-read p (c .period) (c .values) (c .limited) (t .period) in
       let values = ap (λ (l : List ℕ). filled (pos 0) 4 p (valueAt l)) after-period
       ∙ filled-same (pos 0) 4 p _ _ (λ j l w. values-forth p (c .values) p≤ (t .values) j l) in
-      λ i. record { period = period i; values = values i }
+      λ i. record { period = period i; values = values i; limited = marked i }
 
 -- ---- from bytes to a command and back
 
 module _ (p : ℕ) (b : List ℕ) (h : AllBytes b) (most : p ≤ 4) (f : CommandBytes p b) where
-  front : _≡_ {A = List ℕ} (5 ∷ p ∷ 0 ∷ 0 ∷ []) (take 4 b)
+  front : _≡_ {A = List ℕ} (5 ∷ p ∷ bit (eqb (getD b 2 0) 1) ∷ 0 ∷ []) (take 4 b)
   front =
-      (λ i. sym (f .five) i ∷ sym (f .count) i ∷ sym (f .zero-two) i ∷ sym (f .zero-three) i ∷ []) ∙ sym (first-four b (omega (arith, f .len)))
+      (λ i. sym (f .five) i ∷ sym (f .count) i ∷ mark-back (getD b 2 0) (f .mark-two) i ∷ sym (f .zero-three) i ∷ [])
+      ∙ sym (first-four b (omega (arith, f .len)))
 
   dated : littleEndian 4 (commandPeriod b) ≡ take 4 (drop 4 b)
   unfolding commandPeriod

@@ -102,12 +102,12 @@ module _ (p : ℕ) (area : List ℕ) where
   unfolding commandRefusal
   command-done s h = first-fails 2 _ _ (ap not s) ∙ first-fails 5 _ _ (ap not (le-leb longestCommand (length area) h)) ∙ none-holds
 
-  module _ (period : ℕ) (values : List ℤ) where
-    pub no-command : (k : ℕ) → commandRefusal p area ≡ suc k → commandWritten p period values area ≡ []
+  module _ (period : ℕ) (values : List ℤ) (limited : Bool) where
+    pub no-command : (k : ℕ) → commandRefusal p area ≡ suc k → commandWritten p period values limited area ≡ []
     unfolding commandWritten
     no-command k e = pick-false _ _ _ (rw (e, eqb·suc-zero))
 
-    pub command-written : commandRefusal p area ≡ 0 → commandWritten p period values area ≡ commandBytes p period values
+    pub command-written : commandRefusal p area ≡ 0 → commandWritten p period values limited area ≡ commandBytes p period values limited
     unfolding commandWritten
     command-written e = pick-true _ _ _ (eq-eqb _ 0 e)
 

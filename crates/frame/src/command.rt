@@ -15,14 +15,21 @@ use bytes::values::read_values;
 use bytes::word::put_4;
 use bytes::word::put_u32;
 use bytes::word::u32_at;
+use estimate::marks::bit_of;
 
 // Writes a command and returns its length.
-pub(crate) fn put_command(p: usize, period: u32, values: [i32; 4], area: &mut [u8]) -> usize
+pub(crate) fn put_command(
+    p: usize,
+    period: u32,
+    values: [i32; 4],
+    limited: bool,
+    area: &mut [u8],
+) -> usize
     requires { ⌜ (p ≤ 4) × (longestCommand ≤ length (now area)) ⌝ }
-    ensures { λ r. ⌜ (r ≡ length (commandBytes p period values))
-        × (now (area .exit) ≡ put (now (area .entry)) 0 (commandBytes p period values)) ⌝ }
+    ensures { λ r. ⌜ (r ≡ length (commandBytes p period values limited))
+        × (now (area .exit) ≡ put (now (area .entry)) 0 (commandBytes p period values limited)) ⌝ }
 {
-    put_4(area, 0, 5, p as u8, 0, 0);
+    put_4(area, 0, 5, p as u8, bit_of(limited), 0);
     put_u32(area, 4, period);
     put_values(&values[0..p], area, COMMAND_START);
     COMMAND_START + VALUE_LENGTH * p
@@ -46,13 +53,13 @@ pub(crate) fn is_command(p: usize, bytes: &[u8]) -> bool
     if count != p as u8 {
         return false;
     }
-    if byte_two != 0 {
+    if 1 < byte_two {
         return false;
     }
     byte_three == 0
 }
 
-// The period and the values of a command, with 0 in the places beyond p.
+// The period, the values and the mark of a command, with 0 in the places beyond p.
 pub(crate) fn command_in(p: usize, bytes: &[u8]) -> CommandFields
     requires { ⌜ (p ≤ 4) × (length (now bytes) ≡ commandLength p) ⌝ }
     ensures { λ r. ⌜ r ≡ commandIn p (now (bytes .entry)) ⌝ }
@@ -60,5 +67,10 @@ pub(crate) fn command_in(p: usize, bytes: &[u8]) -> CommandFields
     let period = u32_at(bytes, 4);
     let mut values = [0i32; 4];
     read_values(&bytes[COMMAND_START..], &mut values[..p]);
-    CommandFields { period, values }
+    let limited = bytes[2] == 1;
+    CommandFields {
+        period,
+        values,
+        limited,
+    }
 }

@@ -16,7 +16,7 @@ ghost use Rattle.frame.specs.Format.{frameBytes};
 ghost use Rattle.frame.specs.Fields.{blank};
 ghost use Rattle.frame.specs.Reading.{readRefusal, readFrame};
 ghost use Rattle.frame.specs.Writing.{wellFormed, writeRefusal, written};
-ghost use Rattle.frame.specs.Command.{commandRefusal, commandWritten, commandValues};
+ghost use Rattle.frame.specs.Command.{commandRefusal, commandWritten, commandValues, commandLimited};
 ghost use Rattle.frame.specs.CommandReading.{readCommandRefusal, readCommand, noCommand};
 use bytes::values::read_values;
 use command::command_in;
@@ -81,13 +81,14 @@ pub struct Parsed {
     pub frame: Frame,
 }
 
-// What the bytes of a command say.
+// What the bytes of a command say. It is limited where clamping or limits changed a value in the update or the command it comes from.
 pub struct CommandFields {
     pub period: u32,
     pub values: [i32; 4],
+    pub limited: bool,
 }
 
-// The command is all 0 where reading is refused.
+// The command is all 0, and not marked, where reading is refused.
 pub struct ParsedCommand {
     pub answer: Answer,
     pub command: CommandFields,
@@ -234,10 +235,16 @@ pub fn write(n: usize, m: usize, frame: Frame, area: &mut [u8]) -> Written
 }
 
 // Writes a command of p values to the start of an area.
-pub fn write_command(p: usize, period: u32, values: [i32; 4], area: &mut [u8]) -> Written
+pub fn write_command(
+    p: usize,
+    period: u32,
+    values: [i32; 4],
+    limited: bool,
+    area: &mut [u8],
+) -> Written
     ensures answer { λ r. ⌜ number (r .answer) ≡ commandRefusal p (now (area .entry)) ⌝ }
-    ensures count { λ r. ⌜ r .length ≡ length (commandWritten p period values (now (area .entry))) ⌝ }
-    ensures bytes { λ _. ⌜ now (area .exit) ≡ over (commandWritten p period values (now (area .entry))) (now (area .entry)) ⌝ }
+    ensures count { λ r. ⌜ r .length ≡ length (commandWritten p period values limited (now (area .entry))) ⌝ }
+    ensures bytes { λ _. ⌜ now (area .exit) ≡ over (commandWritten p period values limited (now (area .entry))) (now (area .entry)) ⌝ }
 {
     if p < 1 {
         return refused_write(Answer::Sizes);
@@ -248,7 +255,7 @@ pub fn write_command(p: usize, period: u32, values: [i32; 4], area: &mut [u8]) -
     if area.len() < LONGEST_COMMAND {
         return refused_write(Answer::Area);
     }
-    let length = put_command(p, period, values, area);
+    let length = put_command(p, period, values, limited, area);
     Written {
         answer: Answer::Done,
         length,
@@ -262,7 +269,11 @@ fn refused_command(answer: Answer) -> ParsedCommand
     let values = [0i32; 4];
     ParsedCommand {
         answer,
-        command: CommandFields { period: 0, values },
+        command: CommandFields {
+            period: 0,
+            values,
+            limited: false,
+        },
     }
 }
 
@@ -297,4 +308,14 @@ pub fn command_values(area: &[u8]) -> [i32; 4]
     }
     read_values(&area[COMMAND_START..], &mut values);
     values
+}
+
+// Whether the command at the start of an area is marked: false where the area is too short for one.
+pub fn command_limited(area: &[u8]) -> bool
+    ensures { λ r. ⌜ r ≡ commandLimited (now (area .entry)) ⌝ }
+{
+    if area.len() < LONGEST_COMMAND {
+        return false;
+    }
+    area[2] == 1
 }

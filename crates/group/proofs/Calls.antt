@@ -19,6 +19,7 @@ use Rattle.scram.specs.Events.{largest, arrival}
 use Rattle.scram.specs.History.{Result}
 use Rattle.scram.specs.Shown.{Still, inBytes, outcome, Arrives, Sent, Commanded, Does, Shown}
 use Rattle.law.specs.declared.Settings as Law
+use Rattle.law.specs.declared.Marked.{Marked}
 use Rattle.law.specs.Settings.{refusal}
 use Rattle.frame.proofs.Commands.{period-read}
 use Rattle.replica.specs.declared.Held.{Held}
@@ -68,7 +69,7 @@ module _ (N : ℕ) (law : Law.Settings) where
         frame none c = refl
         frame (some m) c = (refl, c)
 
-        command : (c : Option (Command (List ℤ))) → Commanded (group N law) c (issuedBytes (law .p) c)
+        command : (c : Option (Command Marked)) → Commanded (group N law) c (issuedBytes (law .p) c)
         command none = refl
         command (some c) = refl
 
@@ -141,8 +142,8 @@ module _ (N : ℕ) (law : Law.Settings) where
         (subst (Shows i (r i (c .held) a) (stepOf i (c .held) x)) (same i refuses (c .held) x a w)
         (checked-shows i (c .held) a (stepOf i (c .held) x) (keeps i refuses (c .held) x (k .typed) w) (orders i (c .held) x (k .ordered))))
 
-    read : (c : Command (List ℤ)) → c .period ≤ largest → group N law .commandPeriod (group N law .commandBytes c) ≡ c .period
-    read c h = period-read (law .p) (c .period) (c .values) (omega arith)
+    read : (c : Command Marked) → c .period ≤ largest → group N law .commandPeriod (group N law .commandBytes c) ≡ c .period
+    read c h = period-read (law .p) (c .period) (c .values .commands) (c .values .limited) (omega arith)
 
     pub shown : Shown (group N law) Kept (Carried law) (lawOf law) G
     shown = record {

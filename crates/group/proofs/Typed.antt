@@ -25,6 +25,7 @@ use Rattle.scram.specs.Held.{Group, Estimate, Best, Held, Message, Command, noE
 use Rattle.scram.specs.Events.{largest, lastView, better, estimateOf, entered, hearing, nextState, ticked, adopting}
 use Rattle.scram.specs.Events.{propose, raise, afterTick, tick, giveUp, hearAck, hearEstimate, receive, arrive}
 use Rattle.law.specs.declared.Settings as Law
+use Rattle.law.specs.declared.Marked.{Marked}
 use Rattle.law.specs.Settings.{refusal}
 use Rattle.law.specs.Law.{updated}
 use Rattle.law.proofs.Laws.{updated-length, updated-fits, updated-beyond}
@@ -129,7 +130,7 @@ module _ (law : Law.Settings) where
     pub typed : Typed (o .held)
     pub sent : CarriedSent (o .sent)
 
-  sends-nothing : {answer : Answered} {h : Held (List ℤ) Readings} {c : Option (Command (List ℤ))} → Typed h
+  sends-nothing : {answer : Answered} {h : Held (List ℤ) Readings} {c : Option (Command Marked)} → Typed h
       → Keeps (record { answer = answer; held = h; sent = none; command = c })
   sends-nothing t = record { typed = t; sent = tt }
 

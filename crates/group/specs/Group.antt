@@ -13,6 +13,7 @@ use Rattle.scram.specs.Held.{Input, Tick, Arrival, GiveUp}
 use Rattle.scram.specs.History.{Result, System}
 use Rattle.scram.specs.Shown.{isRefused}
 use Rattle.law.specs.declared.Settings as Law
+use Rattle.law.specs.declared.Marked.{Marked}
 use Rattle.frame.specs.Command.{commandPeriod}
 use Rattle.replica.specs.declared.Settings.{Settings}
 use Rattle.replica.specs.declared.Replica.{Replica}
@@ -52,7 +53,7 @@ module _ (N : ℕ) (law : Law.Settings) where
   settingsOf own = record { boxes = N; own = own; law = law }
 
   -- N boxes under this law. "7 looks at them converted", and "In the run of demand 3 a reading means its converted value."
-  abbrev pub group : System (List ℤ) Readings (List ℤ)
+  abbrev pub group : System (List ℤ) Readings Marked
   group = record {
     Box = Replica;
     Handed = Handed;

@@ -1,6 +1,7 @@
 mod Integers
 mod Offsets
 mod Nearest
+mod Changes
 mod Division
 mod Sums
 mod Formulas

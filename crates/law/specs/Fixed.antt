@@ -1,5 +1,6 @@
 -- Fixed point: the numbers are whole, and a coefficient counts units of 1/65536. Sums are over the integers of mathematics, where nothing overflows.
 use Prim.Native.Nat.{ℕ, zero, suc, _+_, _*_, _/_, _%_}
+use mathlib.Core.Bool.{Bool, _||_}
 use lib.Dec.{ltb}
 use lib.IntN.{ℤ, pos, negsuc, negℤ, _+ℤ_}
 use lib.Signed.{ltZ}
@@ -35,6 +36,15 @@ limited lower upper z = pick (ltZ z lower) lower (pick (ltZ upper z) upper z)
 -- "Clamp means: into the i32 range."
 unfoldable pub clamp : ℤ → ℤ
 clamp z = limited (minus 2147483648) (pos 2147483647) z
+
+-- whether limits "changed any value": z is below the lower or above the upper, so not at one of them (`changes-means` of proofs/Changes.antt: `limited` then
+-- gives another number than z, and else z)
+unfoldable pub limitsChange : ℤ → ℤ → ℤ → Bool
+limitsChange lower upper z = ltZ z lower || ltZ upper z
+
+-- whether clamping does
+unfoldable pub clampChanges : ℤ → Bool
+clampChanges z = limitsChange (minus 2147483648) (pos 2147483647) z
 
 -- the size of the largest product of a coefficient and an i32
 abbrev pub largestProduct : ℕ

@@ -6,7 +6,7 @@ ghost use lib.ListN.{length};
 ghost use lib.IntN.{natAbs, _+ℤ_, _*ℤ_};
 ghost use Rattle.lists.specs.Below.{allBelow};
 ghost use Rattle.lists.specs.Places.{entry};
-ghost use Rattle.law.specs.Fixed.{divided, sum, limited, clamp, largestProduct};
+ghost use Rattle.law.specs.Fixed.{divided, sum, limited, clamp, limitsChange, clampChanges, largestProduct};
 ghost use Rattle.law.specs.Settings.{inRange};
 
 // x / 65536 to the nearest whole number, ties to the even one. `%` has the sign of x: brought to 0 and above, the remainder goes with the quotient
@@ -28,22 +28,38 @@ pub(crate) fn divide(x: i64) -> i64
     below + 1
 }
 
+// A value brought into limits, and whether that changed it.
+pub(crate) struct Limited {
+    pub(crate) value: i32,
+    pub(crate) changed: bool,
+}
+
 // x brought into the limits.
-pub(crate) fn limit(x: i64, low: i32, high: i32) -> i32
-    ensures { λ r. ⌜ r ≡ limited low high x ⌝ }
+pub(crate) fn limit(x: i64, low: i32, high: i32) -> Limited
+    ensures { λ r. ⌜ (r .value ≡ limited low high x) × (r .changed ≡ limitsChange low high x) ⌝ }
 {
     if x < (low as i64) {
-        return low;
+        return Limited {
+            value: low,
+            changed: true,
+        };
     }
     if (high as i64) < x {
-        return high;
+        return Limited {
+            value: high,
+            changed: true,
+        };
     }
-    x as i32
+    let value = x as i32;
+    Limited {
+        value,
+        changed: false,
+    }
 }
 
 // x brought into the i32 range.
-pub(crate) fn clamp_i32(x: i64) -> i32
-    ensures { λ r. ⌜ r ≡ clamp x ⌝ }
+pub(crate) fn clamp_i32(x: i64) -> Limited
+    ensures { λ r. ⌜ (r .value ≡ clamp x) × (r .changed ≡ clampChanges x) ⌝ }
 {
     limit(x, -2147483648, 2147483647)
 }

@@ -8,7 +8,7 @@ pub mod tables;
 ghost use mathlib.Core.Path.{_≡_};
 ghost use Rattle.law.specs.Answer.{number};
 ghost use Rattle.law.specs.Settings.{refusal};
-ghost use Rattle.law.specs.Law.{updated, commanded};
+ghost use Rattle.law.specs.Law.{updated, updateLimited, commanded, commandLimited};
 use readings::Readings;
 
 // n states, m readings and p commands. A(i,j) is a[i * 6 + j], L(i,j) is l[i * 4 + j], C(j,i) is c[j * 6 + i] and K(j,i) is k[j * 6 + i],
@@ -34,16 +34,24 @@ pub enum Answer {
     Limits,
 }
 
-// What an update gives: its state is the one handed in where the settings are refused.
+// What an update gives: its state is the one handed in where the settings are refused. It is limited where clamping changed a value.
 pub struct Updated {
     pub answer: Answer,
     pub state: [i32; 6],
+    pub limited: bool,
 }
 
-// What a command gives: its values are 0 where the settings are refused.
+// What a command gives: its values are 0 where the settings are refused. It is limited where limits changed a value.
 pub struct Commanded {
     pub answer: Answer,
     pub values: [i32; 4],
+    pub limited: bool,
+}
+
+// Commands with their mark: whether clamping or limits changed a value on the way to them.
+pub struct Marked {
+    pub commands: [i32; 4],
+    pub limited: bool,
 }
 
 // Document 01's number of an answer.
@@ -79,6 +87,7 @@ pub fn check(settings: Settings) -> Answer
 pub fn update(settings: Settings, state: [i32; 6], readings: Readings) -> Updated
     ensures answer { λ r. ⌜ number (r .answer) ≡ refusal settings ⌝ }
     ensures state { λ r. ⌜ r .state ≡ updated settings state readings ⌝ }
+    ensures limited { λ r. ⌜ r .limited ≡ updateLimited settings state readings ⌝ }
 {
     tables::update(
         settings.n,
@@ -99,6 +108,7 @@ pub fn update(settings: Settings, state: [i32; 6], readings: Readings) -> Update
 pub fn command(settings: Settings, state: [i32; 6]) -> Commanded
     ensures answer { λ r. ⌜ number (r .answer) ≡ refusal settings ⌝ }
     ensures values { λ r. ⌜ r .values ≡ commanded settings state ⌝ }
+    ensures limited { λ r. ⌜ r .limited ≡ commandLimited settings state ⌝ }
 {
     tables::command(
         settings.n,

@@ -1,12 +1,12 @@
--- Laws of `allBelow`: one number more, and what a test that holds of all, or fails at one, tells. Assumes nothing.
-use mathlib.Core.Path.{_≡_, refl}
-use mathlib.Core.Bool.{Bool, true, false, _&&_}
+-- Laws of `allBelow` and `anyBelow`: one number more, what a test that holds of all, or fails at one, tells, and equal tests. Assumes nothing.
+use mathlib.Core.Path.{_≡_, refl, ap₂}
+use mathlib.Core.Bool.{Bool, true, false, _&&_, _||_}
 use Prim.Native.Nat.{ℕ, zero, suc, _+_, _<_}
 use native.Mathlib.Omega.{arith}
 use native.Mathlib.Numerals.{add-one}
 use lib.Dec.{eqb}
 use borrow.Author.Tests.{eqb-true, eqb-false}
-use Rattle.lists.specs.Below.{allBelow}
+use Rattle.lists.specs.Below.{allBelow, anyBelow}
 use Rattle.lists.proofs.Booleans.{both, second-fails}
 
 module _ (test : ℕ → Bool) where
@@ -45,3 +45,17 @@ module _ (test : ℕ → Bool) where
   unfolding allBelow
   one-fails zero k l t = absurd (omega arith)
   one-fails (suc n) k l t = fails-step n k (eqb k n) refl (λ q. one-fails n k q t) t l
+
+  pub any-none : anyBelow 0 test ≡ false
+  unfolding anyBelow
+  any-none = refl
+
+  pub any-next : (n : ℕ) → anyBelow (n + 1) test ≡ anyBelow n test || test n
+  unfolding anyBelow
+  any-next n = rw add-one
+
+-- tests that agree on each number below n
+pub any-same : (n : ℕ) (f g : ℕ → Bool) → ((k : ℕ) → k < n → f k ≡ g k) → anyBelow n f ≡ anyBelow n g
+unfolding anyBelow
+any-same zero f g h = refl
+any-same (suc n) f g h = ap₂ (λ (a b : Bool). a || b) (any-same n f g (λ k l. h k (omega arith))) (h n (omega arith))

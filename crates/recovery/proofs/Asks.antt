@@ -26,6 +26,9 @@ use Rattle.asks.specs.AskThenCommit as Asks
 use Rattle.asks.proofs.AskThenCommit.{ask-has, replica-is}
 use Rattle.group.specs.Group.{Areas, outcomeOf, group}
 use Rattle.group.specs.Group as Group
+use Rattle.group.specs.Command.{HoldsCommand}
+use Rattle.group.proofs.Theorem.{command-in-words}
+use Rattle.power.specs.Asks as Claim
 use Rattle.power.specs.Asks.{Entry, Unasked, after}
 use Rattle.power.proofs.Asked as Power
 use Rattle.power.proofs.Unasked.{special}
@@ -67,6 +70,20 @@ pub commands-alike-asked-copied : EveryGroup (λ N law. (h : List (Entry Firmwar
     → commandPeriod (c .bytes) ≡ commandPeriod (d .bytes) → c .bytes ≡ d .bytes)
 commands-alike-asked-copied N law t e h =
     Power.commands-alike (firmware N law) (lawOf law) (copied N law) (isOkAt N law) h (demand-3-asked-copied N law t e h)
+
+-- ---- each holds the single controller's command of its period, with its mark
+
+pub command-of-decision-asked : EveryGroup (λ N law. (h : List (Entry Group.Handed Areas))
+    (run : Claim.Demand3 (group N law) (lawOf law) (storage N law) (isOk N law) h) (c : Issued Replica)
+    → In c (after (group N law) (lawOf law) (storage N law) (isOk N law) h .plain .issued) → HoldsCommand law (run .row) (c .bytes))
+command-of-decision-asked N law t e h run c p =
+    let d = run .decided c p in command-in-words law (run .row) (d .period) (d .from1) (c .bytes) (d .written) (d .bytes)
+
+pub command-of-decision-asked-copied : EveryGroup (λ N law. (h : List (Entry Firmware.Handed Areas))
+    (run : Claim.Demand3 (firmware N law) (lawOf law) (copied N law) (isOkAt N law) h) (c : Issued (List ℕ))
+    → In c (after (firmware N law) (lawOf law) (copied N law) (isOkAt N law) h .plain .issued) → HoldsCommand law (run .row) (c .bytes))
+command-of-decision-asked-copied N law t e h run c p =
+    let d = run .decided c p in command-in-words law (run .row) (d .period) (d .from1) (c .bytes) (d .written) (d .bytes)
 
 -- ---- the special case: lists without asks and commits
 

@@ -8,6 +8,7 @@ use Rattle.scram.specs.Held.{Group}
 use Rattle.scram.specs.History.{Issued, In}
 use Rattle.scram.proofs.Boxes.{two-majorities}
 use Rattle.law.specs.declared.Settings as Law
+use Rattle.law.specs.declared.Marked.{Marked}
 use Rattle.frame.specs.Command.{commandPeriod}
 use Rattle.replica.specs.declared.Replica.{Replica}
 use Rattle.replica.specs.Settings.{settingsRefusal, lawOf, memberOf, groupOf}
@@ -36,7 +37,7 @@ module _ (N : ℕ) (law : Law.Settings) (t : TypedSettings (settingsOf N law 1))
   G = groupOf (memberOf (settingsOf N law 1))
 
   -- replicas with their records
-  abbrev pub replicas : Premises (List ℤ) Readings (List ℤ)
+  abbrev pub replicas : Premises (List ℤ) Readings Marked
   replicas = record {
     system = group N law;
     Kept = Kept N law;
@@ -50,7 +51,7 @@ module _ (N : ℕ) (law : Law.Settings) (t : TypedSettings (settingsOf N law 1))
 
   -- the C firmware's areas
   abbrev pub areas : (storage : Storage (firmware N law)) → Returns (firmware N law) (KeptIn N law t e) (lawOf law) storage
-      → Premises (List ℤ) Readings (List ℤ)
+      → Premises (List ℤ) Readings Marked
   areas storage returns = record {
     system = firmware N law;
     Kept = KeptIn N law t e;

@@ -15,6 +15,7 @@ use Rattle.scram.specs.Held.{Input, Tick, Arrival, GiveUp, fresh}
 use Rattle.scram.specs.History.{Result, System}
 use Rattle.scram.specs.Shown.{isRefused}
 use Rattle.law.specs.declared.Settings as Law
+use Rattle.law.specs.declared.Marked.{Marked}
 use Rattle.frame.specs.Command.{commandPeriod}
 use Rattle.replica.specs.declared.Replica.{Replica}
 use Rattle.replica.specs.Settings.{lawOf}
@@ -51,7 +52,7 @@ resultAt b o = record { box = recordAfter b o; refused = isRefused (o .answer); 
 module _ (N : ℕ) (law : Law.Settings) where
   -- N boxes under this law. Each starts with what `winder_make` writes; a box that is not of the group has no record, and every call at it gets 15. What an
   -- area holds is what the replica in it holds.
-  abbrev pub firmware : System (List ℤ) Readings (List ℤ)
+  abbrev pub firmware : System (List ℤ) Readings Marked
   firmware = record {
     Box = List ℕ;
     Handed = Handed;

@@ -8,7 +8,7 @@ use lib.IntN.{ℤ}
 use Rattle.readings.specs.declared.Readings.{Readings}
 use Rattle.law.specs.declared.Settings as Law
 use Rattle.law.specs.Settings.{refusals, refusal}
-use Rattle.law.specs.Law.{updated, commanded, issued}
+use Rattle.law.specs.Law.{updated, updateLimited, commanded, commandLimited, issued}
 use Rattle.law.proofs.Lent.{lent}
 use Rattle.scram.specs.Held.{Held, Message, Group}
 use Rattle.scram.specs.Events.{raise, afterTick, tick, giveUp, hearAck, hearEstimate, receive, arrive, arrival}
@@ -37,7 +37,7 @@ module _ (law : Law.Settings) (group : Group) (own : ℕ) (h : Held (List ℤ) R
   give-up-lent = refl
 
   pub arrival-lent : (m : Option (Message (List ℤ) Readings)) → arrival (lawOf (lent law)) group own h m ≡ arrival (lawOf law) group own h m
-  unfolding arrival arrive receive hearAck hearEstimate issued commanded updated refusal refusals
+  unfolding arrival arrive receive hearAck hearEstimate issued commanded commandLimited updated updateLimited refusal refusals
   arrival-lent none = refl
   arrival-lent (some m) = refl
 

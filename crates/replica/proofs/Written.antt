@@ -21,9 +21,9 @@ use Rattle.scram.specs.declared.Kind.{Kind}
 use Rattle.scram.specs.declared.Kind.the-variants as Kind
 use Rattle.replica.specs.Frames.{kindNumber, asCarried}
 
-pub command-is : (p period : ℕ) (values : List ℤ) (area : List ℕ) → commandsOk p ≡ true → longestCommand ≤ length area
-    → commandWritten p period values area ≡ commandBytes p period values
-command-is p period values area sized room = command-written p area period values (command-done p area sized room)
+pub command-is : (p period : ℕ) (values : List ℤ) (limited : Bool) (area : List ℕ) → commandsOk p ≡ true → longestCommand ≤ length area
+    → commandWritten p period values limited area ≡ commandBytes p period values limited
+command-is p period values limited area sized room = command-written p area period values limited (command-done p area sized room)
 
 sized-m : (n m : ℕ) → sizesOk n m ≡ true → m ≤ 4
 unfolding sizesOk

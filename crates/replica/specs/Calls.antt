@@ -13,6 +13,7 @@ use Rattle.scram.specs.Answers.{Answered, Done, Refused, answered}
 use Rattle.scram.specs.Held.{Outcome, fresh}
 use Rattle.scram.specs.Events as Events
 use Rattle.scram.specs.Events.{refusing}
+use Rattle.law.specs.declared.Marked.{Marked}
 use Rattle.bytes.specs.Areas.{over}
 use Rattle.frame.specs.Lengths.{longestFrame, longestCommand}
 use Rattle.replica.specs.declared.Settings.{Settings}
@@ -22,9 +23,9 @@ use Rattle.replica.specs.Settings.{settingsRefusal, lawOf, memberOf, gro
 use Rattle.replica.specs.Held.{heldIn, heldOf}
 use Rattle.replica.specs.Frames.{found, sentBytes, issuedBytes}
 
--- what a step of this replica's protocol gives: states and commands are lists of i32 values
+-- what a step of this replica's protocol gives: a state is a list of i32 values, and what a decision issues is a list of them with its mark
 abbrev pub Outcomes : Type 0
-Outcomes = Outcome (List ℤ) Readings (List ℤ)
+Outcomes = Outcome (List ℤ) Readings Marked
 
 -- 5: "frame area under 69 bytes or command area under 24"
 abbrev pub shortArea : ℕ → ℕ → Bool

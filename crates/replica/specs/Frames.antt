@@ -10,6 +10,7 @@ use Rattle.readings.specs.Readings.{normalised}
 use Rattle.scram.specs.declared.Kind.{Kind}
 use Rattle.scram.specs.declared.Kind.the-variants as Kind
 use Rattle.scram.specs.Held.{Message, Command}
+use Rattle.law.specs.declared.Marked.{Marked}
 use Rattle.estimate.specs.declared.Estimate.{Estimate}
 use Rattle.frame.specs.declared.Frame.{Frame}
 use Rattle.frame.specs.Kinds.{propose, ack, decide, estimate}
@@ -79,6 +80,6 @@ sentBytes n m none = []
 sentBytes n m (some message) = frameBytes n m (frameOf m message)
 
 -- the bytes of the command that a step issues, none where it issues none
-abbrev pub issuedBytes : ℕ → Option (Command (List ℤ)) → List ℕ
+abbrev pub issuedBytes : ℕ → Option (Command Marked) → List ℕ
 issuedBytes p none = []
-issuedBytes p (some c) = commandBytes p (c .period) (c .values)
+issuedBytes p (some c) = commandBytes p (c .period) (c .values .commands) (c .values .limited)

@@ -18,6 +18,7 @@ use Rattle.scram.specs.Held.{Command}
 use Rattle.scram.specs.Held as Scram
 use Rattle.scram.specs.Events as Events
 use Rattle.law.specs.declared.Settings as Law
+use Rattle.law.specs.declared.Marked.{Marked}
 use Rattle.bytes.specs.Areas.{over}
 use Rattle.replica.specs.declared.Settings.{Settings}
 use Rattle.replica.specs.declared.Held.{Held}
@@ -33,7 +34,7 @@ use Rattle.replica.specs.Calls.{Outcomes}
 -- ---- what a rule gives
 
 -- "the command of Update(estimate's state, estimate's readings)", of the estimate held then, where it is issued
-abbrev pub commandOf : Law.Settings → Bool → Held → Option (Command (List ℤ))
+abbrev pub commandOf : Law.Settings → Bool → Held → Option (Command Marked)
 commandOf law issues h = pick issues (some (Events.commandOf (lawOf law) (h .period) (estimateIn (h .estimate)))) none
 
 -- a rule gives what a step of the protocol does, with the frame area from frame to frame′

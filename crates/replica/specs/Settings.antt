@@ -12,6 +12,7 @@ use Rattle.readings.specs.Readings.{noReadings}
 use Rattle.scram.specs.Quorum.{majority, coordinator}
 use Rattle.scram.specs.Held.{Law, Group}
 use Rattle.law.specs.declared.Settings as Law
+use Rattle.law.specs.declared.Marked.{Marked}
 use Rattle.law.specs.Settings.{refusals}
 use Rattle.law.specs.Law.{updated, issued}
 use Rattle.estimate.specs.Fields.{noState, firstStates}
@@ -32,7 +33,7 @@ unfoldable pub settingsRefusal : Settings → ℕ
 settingsRefusal s = firstOf (settingsRefusals s)
 
 -- the fixed law, as the protocol sees it; "A starting state of n i32 values. Places .. beyond n .. are not looked at"
-abbrev pub lawOf : Law.Settings → Law (List ℤ) Readings (List ℤ)
+abbrev pub lawOf : Law.Settings → Law (List ℤ) Readings Marked
 lawOf law = record {
   update = updated law;
   command = issued law;

@@ -52,7 +52,7 @@ pub(crate) fn issue<'a>(
         return 0;
     }
     let estimate = held.estimate;
-    let values = law::tables::issued(
+    let issued = law::tables::issued(
         n,
         m,
         p,
@@ -65,6 +65,7 @@ pub(crate) fn issue<'a>(
         &estimate.state,
         estimate.readings,
     );
-    let written = frame::write_command(p, held.period, values, area);
+    let commands = issued.commands;
+    let written = frame::write_command(p, held.period, commands, issued.limited, area);
     written.length
 }

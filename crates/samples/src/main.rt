@@ -1,4 +1,4 @@
-// Writes a frame of each kind and a command, and says what reading and writing answer on whole frames and on damaged ones.
+// Writes a frame of each kind and two commands, and says what reading and writing answer on whole frames and on damaged ones.
 mod damage;
 mod print;
 mod samples;
@@ -27,6 +27,13 @@ fn bytes_of(frame: Frame, filler: u8) -> [u8; 80] {
     area
 }
 
+// A command's bytes, in an area that held aa in every byte.
+fn command_bytes(limited: bool) -> [u8; 80] {
+    let mut area = [170u8; 80];
+    frame::write_command(2, 258, [50i32, -50, 7, 7], limited, &mut area);
+    area
+}
+
 fn formats() {
     text(b"Propose\n");
     rows(bytes_of(propose(), 170), 53);
@@ -37,9 +44,9 @@ fn formats() {
     text(b"Estimate\n");
     rows(bytes_of(estimate(), 170), 53);
     text(b"Command, and a byte after it that held aa\n");
-    let mut area = [170u8; 80];
-    frame::write_command(2, 258, [50i32, -50, 7, 7], &mut area);
-    rows(area, 17);
+    rows(command_bytes(false), 17);
+    text(b"Command that is marked, and a byte after it that held aa\n");
+    rows(command_bytes(true), 17);
 }
 
 fn damaged() {
@@ -89,12 +96,12 @@ fn to_68(n: usize, frame: Frame) -> Written {
 
 fn command_to_24(p: usize) -> Written {
     let mut area = [0u8; 24];
-    frame::write_command(p, 1, [1i32, 2, 3, 4], &mut area)
+    frame::write_command(p, 1, [1i32, 2, 3, 4], false, &mut area)
 }
 
 fn command_to_23(p: usize) -> Written {
     let mut area = [0u8; 23];
-    frame::write_command(p, 1, [1i32, 2, 3, 4], &mut area)
+    frame::write_command(p, 1, [1i32, 2, 3, 4], false, &mut area)
 }
 
 fn written(label: &[u8], w: Written) {

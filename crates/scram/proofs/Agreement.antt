@@ -2,7 +2,7 @@
 use mathlib.Core.Path.{_≡_, refl, sym, ap, ap₂, _∙_}
 use mathlib.Core.Logic.{_⊎_, inl, inr}
 use mathlib.Core.List.{List, [], _∷_, _++_}
-use Prim.Native.Nat.{ℕ, suc, _+_, _-_, _≤_, _<_}
+use Prim.Native.Nat.{ℕ, zero, suc, _+_, _-_, _≤_, _<_}
 use native.Mathlib.Omega.{arith}
 use lib.ListN.{length}
 use Rattle.scram.specs.Held.{Law, Group, Estimate, Held, Message, Input, Tick, Arrival, GiveUp}
@@ -48,11 +48,11 @@ module _ {State Readings Values : Type 0} (law : Law State Readings Values) (row
     ap₂ (law .command) (m .0 ∙ sym (ap (controller law row) (step-before (length l)) ∙ controller-run l (fed-earlier y l e))) (m .1 ∙ sym (fed-last y l e)),
   )
 
-  -- where the law's command of an estimate is one of the updated state, "command k is the law's command of the new state"
-  pub command-of-state : (of : State → Values) → ((x : State) (y : Readings) → law .command x y ≡ of (law .update x y)) → (k : ℕ)
-      → controllerCommand law row (suc k) ≡ of (controller law row (suc k))
-  unfolding controllerCommand controller
-  command-of-state of e k = ap (λ j. law .command (controller law row j) (row (suc k))) (step-before k) ∙ e (controller law row k) (row (suc k))
+  -- "Step k makes the state Update(state, row k)", of the state after k − 1 steps
+  pub new-state : (k : ℕ) → 1 ≤ k → law .update (controller law row (k - 1)) (row k) ≡ controller law row k
+  unfolding controller
+  new-state zero l = absurd (omega arith)
+  new-state (suc k) l = ap (λ j. law .update (controller law row j) (row (suc k))) (step-before k)
 
 -- ---- demand 3
 

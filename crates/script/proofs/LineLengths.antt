@@ -8,12 +8,12 @@ use lib.IntN.{ℤ, pos}
 use lib.ListN.{length, take, length-append}
 use Rattle.lists.proofs.Places.{filled-length}
 use Rattle.scram.specs.Answers.{Answered, Done, Ignored, Refused}
-use Rattle.frame.specs.Command.{commandValues}
+use Rattle.frame.specs.Command.{commandValues, commandLimited}
 use Rattle.replica.specs.declared.Replica.{Replica}
 use Rattle.text.specs.Printing.{digitsBefore, decimal, listed}
 use Rattle.text.proofs.PrintingLengths.{pick-length, decimal-length, listed-length}
 use Rattle.script.specs.Play.{lineRoom, stateRoom}
-use Rattle.script.specs.Printing.{refusalLine, badLine, answerWord, headWords, counterWords, stateWord, firstWords, sentWord, commandWord, stepLine, askedWord, ticketWord, askLine}
+use Rattle.script.specs.Printing.{refusalLine, badLine, answerWord, headWords, counterWords, stateWord, firstWords, sentWord, starWord, commandWord, stepLine, askedWord, ticketWord, askLine}
 
 take-length-le : (n : ℕ) (values : List ℤ) → length (take n values) ≤ length values
 take-length-le zero values = omega arith
@@ -65,13 +65,24 @@ values-length : (command : List ℕ) → length (commandValues command) ≡ 4
 unfolding commandValues
 values-length command = filled-length (pos 0) 4 _ _
 
-command-length : (p size : ℕ) (command : List ℕ) → length (commandWord p size command) ≤ 49
+star-length : (command : List ℕ) → length (starWord command) ≤ 1
+unfolding starWord
+star-length command = pick-length (commandLimited command) (42 ∷ []) [] 1 (omega arith) (omega arith)
+
+command-length : (p size : ℕ) (command : List ℕ) → length (commandWord p size command) ≤ 50
 unfolding commandWord
 command-length p size command =
     let values = take p (commandValues command) in
-    let l : length (listed values) ≤ 48 =
-    omega (arith, listed-length values, take-length-le p (commandValues command), values-length command) in
-    let h = pick-length (eqb size 0) (45 ∷ []) (listed values) 48 (omega arith) l in omega arith
+    let l : length (listed values ++ starWord command) ≤ 49 =
+    omega (
+      arith,
+      length-append (listed values) (starWord command),
+      listed-length values,
+      take-length-le p (commandValues command),
+      values-length command,
+      star-length command,
+    ) in
+    let h = pick-length (eqb size 0) (45 ∷ []) (listed values ++ starWord command) 49 (omega arith) l in omega arith
 
 pub bad-length : (number : ℕ) → length (badLine number) ≤ lineRoom
 unfolding badLine

@@ -1,5 +1,5 @@
 -- The lines that are printed, each with its line feed, as bytes: 10 is a line feed, 32 a space, 45 a minus, 98 97 100 `bad`, 111 107 `ok`,
--- 105 103 110 111 114 101 100 `ignored`, 114 `r` and 63 a question mark.
+-- 105 103 110 111 114 101 100 `ignored`, 114 `r`, 63 a question mark and 42 a star.
 use Prim.Native.Nat.{ℕ}
 use mathlib.Core.List.{List, [], _∷_, _++_}
 use lib.ListN.{take}
@@ -7,7 +7,7 @@ use lib.Dec.{eqb}
 use Rattle.lists.specs.Choice.{pick}
 use Rattle.text.specs.Printing.{digitsBefore, decimal, listed}
 use Rattle.scram.specs.Answers.{Answered, Done, Ignored, Refused}
-use Rattle.frame.specs.Command.{commandValues}
+use Rattle.frame.specs.Command.{commandValues, commandLimited}
 use Rattle.replica.specs.declared.Replica.{Replica}
 
 -- "A header line comes first": `no who answer k v vb kb x frame command`
@@ -51,9 +51,13 @@ stateWord r = 32 ∷ listed (take (r .settings .law .n) (r .held .estimate .stat
 unfoldable pub sentWord : ℕ → ℕ → List ℕ
 sentWord number size = 32 ∷ pick (eqb size 0) (45 ∷ []) (decimal number)
 
+-- "The bench prints `*` directly behind such a command", whose byte 2 is 1: "once, behind its last value"
+unfoldable pub starWord : List ℕ → List ℕ
+starWord command = pick (commandLimited command) (42 ∷ []) []
+
 -- "command", after a space; "`-` stands where there is no .. command"
 unfoldable pub commandWord : ℕ → ℕ → List ℕ → List ℕ
-commandWord p size command = 32 ∷ pick (eqb size 0) (45 ∷ []) (listed (take p (commandValues command)))
+commandWord p size command = 32 ∷ pick (eqb size 0) (45 ∷ []) (listed (take p (commandValues command)) ++ starWord command)
 
 -- the fields up to the state
 unfoldable pub firstWords : ℕ → ℕ → Answered → Replica → List ℕ

@@ -5,7 +5,7 @@ ghost use lib.ListN.{length};
 ghost use Rattle.text.specs.Printing.{Puts, decimal};
 ghost use Rattle.script.specs.Play.{lineRoom, stateRoom};
 ghost use Rattle.scram.specs.Answers.{answered};
-ghost use Rattle.script.specs.Printing.{headerLine, badAlone, refusalLine, badLine, answerWord, headWords, counterWords, stateWord, firstWords, sentWord, commandWord, stepLine, askedWord, askLine};
+ghost use Rattle.script.specs.Printing.{headerLine, badAlone, refusalLine, badLine, answerWord, headWords, counterWords, stateWord, firstWords, sentWord, starWord, commandWord, stepLine, askedWord, askLine};
 use crate::boxes::Outgoing;
 use crate::decimals::put_ticket;
 use replica::Replica;
@@ -129,6 +129,16 @@ fn put_sent(text: &mut [u8], at: usize, number: u32, size: usize) -> usize
     put_decimal(text, at, number)
 }
 
+// A star where clamping or limits changed a value.
+fn put_star(text: &mut [u8], at: usize, command: &[u8]) -> usize
+    ensures { λ r. ⌜ Puts (now (text .entry)) at (starWord (now (command .entry))) r (now (text .exit)) ⌝ }
+{
+    if frame::command_limited(command) {
+        return put_word(text, at, b"*");
+    }
+    put_word(text, at, b"")
+}
+
 fn put_command(text: &mut [u8], at: usize, p: usize, size: usize, command: &[u8]) -> usize
     ensures { λ r. ⌜ Puts (now (text .entry)) at (commandWord p size (now (command .entry))) r (now (text .exit)) ⌝ }
 {
@@ -138,7 +148,8 @@ fn put_command(text: &mut [u8], at: usize, p: usize, size: usize, command: &[u8]
     }
     let values = frame::command_values(command);
     let n = at_most(p, 4);
-    put_list(text, at, &values[0..n])
+    let at = put_list(text, at, &values[0..n]);
+    put_star(text, at, command)
 }
 
 // The line of a step at a box: its answer, what it gave, and the replica that comes back.

@@ -3,11 +3,11 @@ use Prim.Native.Nat.{ℕ, _+_, _*_}
 
 -- a call that is gone or means something else makes a new major version
 abbrev pub major : ℕ
-major = 1
+major = 2
 
 -- a further call makes a new minor version
 abbrev pub minor : ℕ
-minor = 4
+minor = 0
 
 -- both as one number
 abbrev pub version : ℕ

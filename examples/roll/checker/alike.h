@@ -1,6 +1,6 @@
 /*
- * Whether the boxes and their commands agree: settings that differ in the own number alone, commands that are laid out as document
- * 01 says, and all commands of one period alike, at the boxes and at the drive.
+ * Whether the boxes and their commands agree: settings that differ in the own number alone, commands that are laid out as
+ * documents 01 and 02 say, and all commands of one period alike, at the boxes and at the drive.
  */
 #ifndef CHECKER_ALIKE_H
 #define CHECKER_ALIKE_H

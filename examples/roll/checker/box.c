@@ -141,7 +141,7 @@ static void hold_to_count(struct Box *box, uint32_t period)
 static void decide(struct Box *box, const struct Replica *replica, const char *command)
 {
     struct Decision decision = {.box = box->number, .line = box->log.line, .view = replica->view, .command = command};
-    decision.state = update(box->settings, &replica->state, &replica->readings);
+    decision.decided = update(box->settings, &replica->state, &replica->readings);
     add_decision(box->history, replica->period, &decision);
 }
 
@@ -192,11 +192,11 @@ static void read_unstored(struct Box *box)
  */
 static void miss_periods(struct Box *box, const struct Replica *record, uint32_t missed)
 {
-    struct State state = record->period == 0 ? record->state : update(box->settings, &record->state, &record->readings);
+    struct State state = record->period == 0 ? record->state : update(box->settings, &record->state, &record->readings).state;
     for (uint32_t period = record->period + 1; period <= record->period + missed; period++) {
         add_row(box->history, period, &all_absent);
         add_held(box->history, period, &state);
-        state = update(box->settings, &state, &all_absent);
+        state = update(box->settings, &state, &all_absent).state;
     }
 }
 

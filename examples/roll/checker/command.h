@@ -1,5 +1,6 @@
 /*
- * The bytes of a command, as document 01 lays them out under "Frames". They are held as the logs have them: HEX, two digits a byte.
+ * The bytes of a command, as document 01 lays them out under "Frames", with byte 2 of document 02, L7. They are held as the logs
+ * have them: HEX, two digits a byte.
  */
 #ifndef CHECKER_COMMAND_H
 #define CHECKER_COMMAND_H
@@ -20,7 +21,10 @@ bool is_command(const char *hex, int32_t p);
 /* The period of bytes that are laid out as a command. */
 uint32_t period_of_command(const char *hex);
 
-/* The bytes of the law's command of this state, for this period. */
-void command_of(const struct Settings *settings, uint32_t period, const struct State *state, char hex[COMMAND_HEX]);
+/*
+ * The bytes of the law's command of what this update gave, for this period. It is asked for an update and not for a state, since
+ * byte 2 is no function of the state alone: two updates may give one state, one of them clamped.
+ */
+void command_of(const struct Settings *settings, uint32_t period, const struct Updated *updated, char hex[COMMAND_HEX]);
 
 #endif

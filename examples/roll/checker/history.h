@@ -25,13 +25,13 @@ struct Held {
     struct Held *next;
 };
 
-/* A step that decided the period: its view, its command's bytes, and its decided state. */
+/* A step that decided the period: its view, its command's bytes, and Update of its estimate, whose state is its decided state. */
 struct Decision {
     int32_t box;
     unsigned long line;
     uint32_t view;
     const char *command;
-    struct State state;
+    struct Updated decided;
     struct Decision *next;
 };
 

@@ -2,13 +2,19 @@
 
 #include <string.h>
 
-/* "Clamp means: into the i32 range." */
-static int32_t clamped(int64_t value)
+/* "The law says with each update and each command whether clamping or limits changed any value" (document 02, L7). */
+static struct Limited limited(int64_t value, int32_t low, int32_t high)
 {
-    if (value < INT32_MIN) {
-        return INT32_MIN;
+    if (value < low) {
+        return (struct Limited){low, true};
     }
-    return value > INT32_MAX ? INT32_MAX : (int32_t)value;
+    return value > high ? (struct Limited){high, true} : (struct Limited){(int32_t)value, false};
+}
+
+/* "Clamp means: into the i32 range." */
+static struct Limited clamped(int64_t value)
+{
+    return limited(value, INT32_MIN, INT32_MAX);
 }
 
 /* "From now on all three go to the nearest whole number, ties to the even one" (document 02, L2). */
@@ -38,11 +44,12 @@ static int64_t sum_of_products(const int32_t *coefficients, const int32_t *value
 
 /*
  * "For a present reading j: e(j) = clamp(y(j) − (sum over i of C(j,i) × x(i)) / 65536). For an absent one e(j) = 0."
+ * Nothing is clamped for an absent one.
  */
-static int32_t e(const struct Settings *settings, const struct State *state, const struct Readings *readings, int32_t j)
+static struct Limited e(const struct Settings *settings, const struct State *state, const struct Readings *readings, int32_t j)
 {
     if (readings->present[j] == 0) {
-        return 0;
+        return (struct Limited){0, false};
     }
     return clamped(readings->y[j] - divided(sum_of_products(settings->C[j], state->x, settings->n)));
 }
@@ -50,29 +57,29 @@ static int32_t e(const struct Settings *settings, const struct State *state, con
 /*
  * "Update: x'(i) = clamp((sum of A(i,j) × x(j) + sum of L(i,j) × e(j)) / 65536), one division for both sums."
  */
-struct State update(const struct Settings *settings, const struct State *state, const struct Readings *readings)
+struct Updated update(const struct Settings *settings, const struct State *state, const struct Readings *readings)
 {
+    struct Updated updated = {{{0}}, false};
     int32_t all_e[MOST_READINGS] = {0};
     for (int32_t j = 0; j < settings->m; j++) {
-        all_e[j] = e(settings, state, readings, j);
+        const struct Limited e_j = e(settings, state, readings, j);
+        all_e[j] = e_j.value;
+        updated.clamped = updated.clamped || e_j.changed;
     }
-    struct State updated = {{0}};
     for (int32_t i = 0; i < settings->n; i++) {
         const int64_t of_state = sum_of_products(settings->A[i], state->x, settings->n);
         const int64_t of_readings = sum_of_products(settings->L[i], all_e, settings->m);
-        updated.x[i] = clamped(divided(of_state + of_readings));
+        const struct Limited x_i = clamped(divided(of_state + of_readings));
+        updated.state.x[i] = x_i.value;
+        updated.clamped = updated.clamped || x_i.changed;
     }
     return updated;
 }
 
 /* "Command j: (sum of K(j,i) × x(i)) / 65536, brought into its own limits." */
-int32_t command_value(const struct Settings *settings, const struct State *state, int32_t j)
+struct Limited command_value(const struct Settings *settings, const struct State *state, int32_t j)
 {
-    const int64_t value = divided(sum_of_products(settings->K[j], state->x, settings->n));
-    if (value < settings->low[j]) {
-        return settings->low[j];
-    }
-    return value > settings->high[j] ? settings->high[j] : (int32_t)value;
+    return limited(divided(sum_of_products(settings->K[j], state->x, settings->n)), settings->low[j], settings->high[j]);
 }
 
 struct State starting_state(const struct Settings *settings)

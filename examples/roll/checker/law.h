@@ -1,6 +1,7 @@
 /*
- * The law of document 01 with the rounding of document 02, L2: settings, states, readings, Update and the command. Whole numbers
- * alone. Places beyond n, m and p are 0 in all that is made here or read from a log, so that equal states are equal bytes.
+ * The law of document 01 with the rounding of document 02, L2, and with L7's word on whether clamping or limits changed a value:
+ * settings, states, readings, Update and the command. Whole numbers alone. Places beyond n, m and p are 0 in all that is made here
+ * or read from a log, so that equal states are equal bytes.
  */
 #ifndef CHECKER_LAW_H
 #define CHECKER_LAW_H
@@ -37,12 +38,24 @@ struct Readings {
     int32_t y[MOST_READINGS];
 };
 
+/* A value brought into its limits, and whether that changed it: one exactly at its limit stays what it was. */
+struct Limited {
+    int32_t value;
+    bool changed;
+};
+
+/* What Update gives: the state, and whether clamping changed an e of a present reading or a value of this state. */
+struct Updated {
+    struct State state;
+    bool clamped;
+};
+
 struct State starting_state(const struct Settings *settings);
 
-struct State update(const struct Settings *settings, const struct State *state, const struct Readings *readings);
+struct Updated update(const struct Settings *settings, const struct State *state, const struct Readings *readings);
 
-/* Command j of the state, j from 0. */
-int32_t command_value(const struct Settings *settings, const struct State *state, int32_t j);
+/* Command j of the state, j from 0, and whether its limits changed it. */
+struct Limited command_value(const struct Settings *settings, const struct State *state, int32_t j);
 
 bool same_settings(const struct Settings *one, const struct Settings *other);
 bool same_state(const struct State *one, const struct State *other);

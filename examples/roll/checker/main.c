@@ -1,6 +1,6 @@
 /*
  * The checker of a test roll: reads the logs of all boxes, of the plant and of the drive, and says whether what the group did is
- * what document 01 promises under "The history of demand 3", with document 02's L1, L2, L4 and L6.
+ * what document 01 promises under "The history of demand 3", with document 02's L1, L2, L4, L6 and L7.
  *
  * checker FOLDER: status 0, nothing found; 1, a violation was found; 2, the logs cannot be read.
  */

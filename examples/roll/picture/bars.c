@@ -26,7 +26,7 @@ void write_bar_style(void)
 {
     printf("<style>\n"
            ".row { font-size: 10px; text-anchor: end } .bar { fill: #fff; stroke: #bbb } .key { stroke-width: 9 }\n"
-           ".up { stroke: #c3dcc6 } .coordinator { stroke: #3c8750 } .without { stroke: #c0281c }\n"
+           ".up { stroke: #c3dcc6 } .coordinator { stroke: #3c8750 } .without { stroke: #c0281c } .limited { stroke: #e0a23c }\n"
            "</style>\n");
 }
 
@@ -34,7 +34,8 @@ void write_bar_keys(double x, double y)
 {
     panel_key(x, y, "key up", "box up");
     panel_key(x + 92.0, y, "key coordinator", "up, coordinator");
-    panel_key(x + 230.0, y, "key without", "period without a command");
+    panel_key(x + 230.0, y, "key limited", "command at its stop");
+    panel_key(x + 396.0, y, "key without", "period without a command");
 }
 
 static double within(double value, double low, double high)
@@ -114,6 +115,8 @@ void write_bars(const struct Shown *shown)
         write_strokes(shown, &(struct Strokes){.row = box, .class = "up", .marks = logs->up[box], .wanted = true});
         write_strokes(shown, &(struct Strokes){.row = box, .class = "coordinator", .marks = logs->coordinated[box], .wanted = true});
     }
+    struct Strokes limited = {.row = BOXES, .class = "limited", .marks = logs->limited, .wanted = true, .narrowest = NARROWEST};
+    write_strokes(shown, &limited);
     write_strokes(shown, &(struct Strokes){.row = BOXES, .class = "without", .marks = logs->commanded, .narrowest = NARROWEST});
 }
 

@@ -1,4 +1,7 @@
-/* Panels that show period by period who was up and who decided: a bar for each box, and below them the periods without a command. */
+/*
+ * Panels that show period by period who was up and who decided: a bar for each box, and below them the periods whose command is at its stop
+ * and those without one.
+ */
 #ifndef BARS_H
 #define BARS_H
 

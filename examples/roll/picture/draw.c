@@ -87,7 +87,7 @@ static void write_boxes(const struct Logs *logs)
     write_bars(&(struct Shown){&panel, logs, diameter_of});
     diameter_ticks(&panel);
     panel_frame(&panel, "Boxes, empty where they are off", "diameter, mm", "");
-    write_bar_keys(520.0, 505.0);
+    write_bar_keys(354.0, 505.0);
 }
 
 void draw_roll(const struct Logs *logs)

@@ -8,6 +8,7 @@
 #include "diameter.h"
 
 #define LONGEST_LINE 8192
+#define MARK_AT 5 /* the last hexadecimal digit of a command's byte 2 */
 
 typedef void (*Take)(struct Logs *logs, int box, const char *line);
 
@@ -37,6 +38,7 @@ static void take_event(struct Logs *logs, int box, const char *line)
     logs->up[box][period] = true;
     if (strcmp(command, "-") != 0) {
         logs->commanded[period] = true;
+        logs->limited[period] = strlen(command) > MARK_AT && command[MARK_AT] == '1';
         logs->coordinated[view % BOXES][period] = true;
     }
 }

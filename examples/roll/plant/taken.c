@@ -8,11 +8,13 @@
 
 #define COMMANDS 1
 
+/* A limited command is in force like any other; that it is limited stays in its bytes, which the log has. */
 static bool take(struct Taken *taken, const uint8_t *datagram, size_t length)
 {
     uint32_t period;
     int32_t commands[WINDER_COMMANDS_MAX];
-    if (winder_read_command(COMMANDS, datagram, length, &period, commands) != 0 || period <= taken->period) {
+    uint8_t limited;
+    if (winder_read_command(COMMANDS, datagram, length, &period, commands, &limited) != 0 || period <= taken->period) {
         return false;
     }
     *taken = (struct Taken){.period = period, .force = (double)commands[0] / NEWTON};

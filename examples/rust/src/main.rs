@@ -1,5 +1,6 @@
-//! Runs the bench's law for a few periods, once with a coefficient that it refuses, and then with
-//! readings in newtons, of which one counts as missing.
+//! Runs the bench's law for a few periods, once with a coefficient that it refuses, then with
+//! readings in newtons, of which one counts as missing, and at last with an upper limit that the
+//! command hits.
 
 mod law;
 
@@ -27,11 +28,13 @@ fn bench_law() -> Settings {
     law
 }
 
-/// One period: the state after it and its command.
-fn period(law: &Settings, state: State, reading: Option<i32>) -> Result<(State, i32), u32> {
+/// One period: the state after it, its command, and whether clamping or limits changed a value on
+/// the way to it.
+fn period(law: &Settings, state: State, reading: Option<i32>) -> Result<(State, i32, bool), u32> {
     let next = law::update(law, state, [reading, None, None, None])?;
-    let commands = law::command(law, next)?;
-    Ok((next, commands[0]))
+    let commands = law::command(law, next.value)?;
+    let limited = next.limited || commands.limited;
+    Ok((next.value, commands.value[0], limited))
 }
 
 fn shown(reading: Option<i32>) -> String {
@@ -42,8 +45,12 @@ fn shown(reading: Option<i32>) -> String {
 fn print_period(number: usize, law: &Settings, state: State, reading: Option<i32>) -> State {
     let reading_shown = shown(reading);
     match period(law, state, reading) {
-        Ok((next, command)) => {
-            println!("{number:>6} {reading_shown:>8} {:>6} {command:>8}", next[0]);
+        Ok((next, command, limited)) => {
+            let mark = if limited { " limited" } else { "" };
+            println!(
+                "{number:>6} {reading_shown:>8} {:>6} {command:>8}{mark}",
+                next[0]
+            );
             next
         }
         Err(refusal) => {
@@ -75,4 +82,8 @@ fn main() {
     for (i, newtons) in [0.002, f32::NAN].into_iter().enumerate() {
         state = print_period(i + 7, &law, state, law::reading(newtons));
     }
+
+    let mut narrow = law.clone();
+    narrow.high[0] = 90;
+    print_period(9, &narrow, state, Some(101));
 }

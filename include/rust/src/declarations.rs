@@ -18,6 +18,7 @@ extern "C" {
         present: &[u8; 4],
         values: &[i32; 4],
         state: &mut [i32; 6],
+        limited: &mut u8,
     ) -> u32;
 
     pub fn winder_command(
@@ -32,6 +33,7 @@ extern "C" {
         high: &[i32; 4],
         state: &[i32; 6],
         commands: &mut [i32; 4],
+        limited: &mut u8,
     ) -> u32;
 
     pub fn winder_read_frame(
@@ -65,6 +67,7 @@ extern "C" {
         bytes_length: usize,
         period: &mut u32,
         commands: &mut [i32; 4],
+        limited: &mut u8,
     ) -> u32;
 
     pub fn winder_write_page(

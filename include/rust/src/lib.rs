@@ -14,7 +14,7 @@ use declarations::{
 };
 
 /// The version of these declarations: major version times 100, and minor version.
-pub const VERSION: u32 = 104;
+pub const VERSION: u32 = 200;
 
 /// The version of the archive.
 #[inline]
@@ -44,13 +44,15 @@ pub struct Settings {
     pub high: [i32; 4],
 }
 
-/// The state after one period with these readings. Gives 0 or a refusal's number.
+/// The state after one period with these readings. `limited` becomes 1 where clamping changed e(j) of a present reading or x'(i), else 0. Gives 0
+/// or a refusal's number.
 #[inline]
 pub fn update(
     settings: &Settings,
     present: &[u8; 4],
     values: &[i32; 4],
     state: &mut [i32; 6],
+    limited: &mut u8,
 ) -> u32 {
     let Settings {
         n,
@@ -63,12 +65,21 @@ pub fn update(
         low,
         high,
     } = settings;
-    unsafe { winder_update(*n, *m, *p, a, l, c, k, low, high, present, values, state) }
+    unsafe {
+        winder_update(
+            *n, *m, *p, a, l, c, k, low, high, present, values, state, limited,
+        )
+    }
 }
 
-/// The commands of a state. Gives 0 or a refusal's number.
+/// The commands of a state. `limited` becomes 1 where its limits changed a command, else 0. Gives 0 or a refusal's number.
 #[inline]
-pub fn command(settings: &Settings, state: &[i32; 6], commands: &mut [i32; 4]) -> u32 {
+pub fn command(
+    settings: &Settings,
+    state: &[i32; 6],
+    commands: &mut [i32; 4],
+    limited: &mut u8,
+) -> u32 {
     let Settings {
         n,
         m,
@@ -80,7 +91,7 @@ pub fn command(settings: &Settings, state: &[i32; 6], commands: &mut [i32; 4]) -
         low,
         high,
     } = settings;
-    unsafe { winder_command(*n, *m, *p, a, l, c, k, low, high, state, commands) }
+    unsafe { winder_command(*n, *m, *p, a, l, c, k, low, high, state, commands, limited) }
 }
 
 /// What a frame says.
@@ -145,10 +156,17 @@ pub fn write_frame(n: usize, m: usize, frame: &Frame, area: &mut [u8], length: &
     }
 }
 
-/// Reads a command of p values. Gives 0 or a refusal's number.
+/// Reads a command of p values. `limited` becomes its byte 2: 1 where clamping or limits changed a value in the update or the command that it
+/// comes from, else 0. Gives 0 or a refusal's number.
 #[inline]
-pub fn read_command(p: usize, bytes: &[u8], period: &mut u32, commands: &mut [i32; 4]) -> u32 {
-    unsafe { winder_read_command(p, bytes.as_ptr(), bytes.len(), period, commands) }
+pub fn read_command(
+    p: usize,
+    bytes: &[u8],
+    period: &mut u32,
+    commands: &mut [i32; 4],
+    limited: &mut u8,
+) -> u32 {
+    unsafe { winder_read_command(p, bytes.as_ptr(), bytes.len(), period, commands, limited) }
 }
 
 /// The words that an entry of a shift page takes.

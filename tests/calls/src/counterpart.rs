@@ -44,10 +44,15 @@ pub fn update(
     present: &[u8; 4],
     values: &[i32; 4],
     state: &mut [i32; 6],
+    limited: &mut u8,
 ) -> u32 {
     let readings = row(present, values);
-    let next = law::update(&sized(sizes, settings), state, &readings);
-    answer(next, state)
+    let mut given = (*state, *limited);
+    let updated = law::update(&sized(sizes, settings), state, &readings);
+    let updated = updated.map(|updated| (updated.state, updated.limited.into()));
+    let number = answer(updated, &mut given);
+    (*state, *limited) = given;
+    number
 }
 
 pub fn command(
@@ -55,9 +60,14 @@ pub fn command(
     settings: &Settings,
     state: &[i32; 6],
     commands: &mut [i32; 4],
+    limited: &mut u8,
 ) -> u32 {
-    let values = law::command(&sized(sizes, settings), state);
-    answer(values, commands)
+    let mut given = (*commands, *limited);
+    let commanded = law::command(&sized(sizes, settings), state);
+    let commanded = commanded.map(|command| (command.values, command.limited.into()));
+    let number = answer(commanded, &mut given);
+    (*commands, *limited) = given;
+    number
 }
 
 /// What is missing has the value 0.

@@ -4,9 +4,9 @@
 use std::env;
 use std::process::Command;
 
-use second::fault::{Fault, CALL_NAMES, FRAME_NAMES, LAW_NAMES, NAMES, PAGE_NAMES};
-use second::fault::{READING_NAMES, RECORD_NAMES, ROUNDING_NAMES, STEP_NAMES, VARIABLE};
-use second::fault::{TICKET_CALL_NAMES, TICKET_NAMES};
+use second::fault::{Fault, CALL_NAMES, FRAME_NAMES, LAW_MARK_NAMES, LAW_NAMES, MARK_NAMES};
+use second::fault::{NAMES, PAGE_NAMES, READING_NAMES, RECORD_NAMES, ROUNDING_NAMES};
+use second::fault::{STEP_NAMES, TICKET_CALL_NAMES, TICKET_NAMES, VARIABLE};
 
 use crate::{frames, law, lists, pages, records, singles, steps, tickets};
 
@@ -23,17 +23,21 @@ pub fn table(seed: u64) -> Result<(), String> {
     let all_found = rows(seed, "frames", &FRAME_NAMES)?
         & rows(seed, "law", &LAW_NAMES)?
         & rows(seed, "law", &ROUNDING_NAMES)?
+        & rows(seed, "law", &LAW_MARK_NAMES)?
         & rows(seed, "singles", &of_singles())?
         & rows(seed, "steps", &NAMES)?
         & rows(seed, "steps", &STEP_NAMES)?
         & rows(seed, "steps", &READING_NAMES)?
         & rows(seed, "steps", &ROUNDING_NAMES)?
+        & rows(seed, "steps", &of_marks())?
         & rows(seed, "lists", &of_lists())?
         & rows(seed, "pages", &of_pages())?
         & rows(seed, "records", &RECORD_NAMES)?
         & rows(seed, "records", &CALL_NAMES)?
+        & rows(seed, "records", &of_marks())?
         & rows(seed, "tickets", &of_tickets())?
-        & rows(seed, "tickets", &TICKET_CALL_NAMES)?;
+        & rows(seed, "tickets", &TICKET_CALL_NAMES)?
+        & rows(seed, "tickets", &of_marks())?;
     match all_found {
         true => Ok(()),
         false => Err("a planted fault was not found".to_string()),
@@ -70,6 +74,13 @@ fn of_pages() -> Vec<Named> {
         Fault::PeriodsBeforeArea,
     ];
     without(&PAGE_NAMES, &others)
+}
+
+/// The faults of marks that a step of a replica can show: the others are about
+/// what its box updated or issued before, which no replica holds.
+fn of_marks() -> Vec<Named> {
+    let others = [Fault::LastMarkKept, Fault::EstimatesUpdateMarked];
+    without(&MARK_NAMES, &others)
 }
 
 /// The faults of tickets that areas can show: an area has no place for what a

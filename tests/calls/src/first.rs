@@ -37,8 +37,9 @@ pub fn update(
     present: &[u8; 4],
     values: &[i32; 4],
     state: &mut [i32; 6],
+    limited: &mut u8,
 ) -> u32 {
-    winder::update(&sized(sizes, settings), present, values, state)
+    winder::update(&sized(sizes, settings), present, values, state, limited)
 }
 
 pub fn command(
@@ -46,8 +47,9 @@ pub fn command(
     settings: &Settings,
     state: &[i32; 6],
     commands: &mut [i32; 4],
+    limited: &mut u8,
 ) -> u32 {
-    winder::command(&sized(sizes, settings), state, commands)
+    winder::command(&sized(sizes, settings), state, commands, limited)
 }
 
 pub fn convert_single(bits: u32, value: &mut i32) -> u8 {

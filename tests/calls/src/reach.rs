@@ -3,11 +3,10 @@
 
 use std::fmt;
 
-use crate::areas::Sizes;
 use crate::law_call::LawCall;
+use crate::law_sums::{clamp, command_sum, divided, error, is_present, nearest};
+use crate::law_sums::{prediction_sum, state_sum, UNIT};
 use crate::report::write_row;
-
-const UNIT: i64 = 65_536;
 
 /// Counts of sums below zero and above.
 #[derive(Debug, Default)]
@@ -47,31 +46,22 @@ pub struct Reach {
 impl Reach {
     /// Counts what an update divides and clamps.
     pub fn count_update(&mut self, call: &LawCall) {
-        let Sizes { n, m, .. } = call.sizes;
-        let e = [0, 1, 2, 3].map(|j| self.error(call, j));
-        for i in 0..n {
-            let of_x = dot(&call.settings.a[i], &call.state, n);
-            let of_e = dot(&call.settings.l[i], &e, m);
-            let quotient = self.divide(of_x + of_e);
+        for j in (0..call.sizes.m).filter(|&j| is_present(call, j)) {
+            self.divide(prediction_sum(call, j));
+            let error = error(call, j);
+            self.errors_clamped += usize::from(clamp(error) != error);
+        }
+        for i in 0..call.sizes.n {
+            let quotient = self.divide(state_sum(call, i));
             self.states_clamped += usize::from(clamp(quotient) != quotient);
         }
-    }
-
-    fn error(&mut self, call: &LawCall, j: usize) -> i32 {
-        if j >= call.sizes.m || call.present[j] == 0 {
-            return 0;
-        }
-        let expected = self.divide(dot(&call.settings.c[j], &call.state, call.sizes.n));
-        let error = i64::from(call.values[j]) - expected;
-        self.errors_clamped += usize::from(clamp(error) != error);
-        clamp(error) as i32
     }
 
     /// Counts what a command divides and limits.
     pub fn count_command(&mut self, call: &LawCall) {
         let settings = &call.settings;
         for j in 0..call.sizes.p {
-            let wanted = self.divide(dot(&settings.k[j], &call.state, call.sizes.n));
+            let wanted = self.divide(command_sum(call, j));
             self.limited_below += usize::from(wanted < settings.lower[j].into());
             self.limited_above += usize::from(wanted > settings.upper[j].into());
         }
@@ -91,28 +81,17 @@ impl Reach {
     }
 
     fn divide(&mut self, sum: i64) -> i64 {
-        let (below, remainder) = (sum.div_euclid(UNIT), sum.rem_euclid(UNIT));
-        let is_even = below % 2 == 0;
+        let (below, from_tie) = divided(sum);
         self.divisions += 1;
-        match (remainder - UNIT / 2, is_even) {
+        match (from_tie, below % 2 == 0) {
             (0, true) => self.ties_down.count(sum),
             (0, false) => self.ties_up.count(sum),
             (-1 | 1, _) => self.near_ties.count(sum),
-            _ if remainder != 0 => self.others.count(sum),
+            _ if sum % UNIT != 0 => self.others.count(sum),
             _ => (),
         }
-        let goes_up = remainder > UNIT / 2 || remainder == UNIT / 2 && !is_even;
-        below + i64::from(goes_up)
+        nearest(sum)
     }
-}
-
-fn dot(coefficients: &[i32], values: &[i32], count: usize) -> i64 {
-    let pairs = coefficients.iter().zip(values).take(count);
-    pairs.map(|(&c, &x)| i64::from(c) * i64::from(x)).sum()
-}
-
-fn clamp(value: i64) -> i64 {
-    value.clamp(i32::MIN.into(), i32::MAX.into())
 }
 
 impl fmt::Display for Reach {

@@ -4,6 +4,7 @@ use std::fmt;
 
 use winder::IGNORED;
 
+use crate::issued::Issued;
 use crate::record_calls::{Asked, Call, Left};
 use crate::record_damage::DAMAGES;
 use crate::record_layout::{BOXES, M, N, P};
@@ -42,6 +43,7 @@ const SIZES: [(&str, usize, [usize; 2]); 4] = [
 pub struct Counts {
     /// Calls of the groups that the records come from.
     of_groups: usize,
+    issued_by_groups: Issued,
     /// By call and answer; ignored is at place 17.
     answers: [[usize; 18]; 6],
     damages: ByDamage,
@@ -49,6 +51,7 @@ pub struct Counts {
     handed: [usize; HANDED.len()],
     handed_done: [usize; HANDED.len()],
     done: [usize; DONE.len()],
+    issued: Issued,
     grounds: [usize; GROUNDS.len()],
 }
 
@@ -63,8 +66,9 @@ impl Default for ByDamage {
 }
 
 impl Counts {
-    pub fn count_group(&mut self, calls: usize) {
+    pub fn count_group(&mut self, calls: usize, issued: Issued) {
         self.of_groups += calls;
+        self.issued_by_groups.add(issued);
     }
 
     /// A call, with what was done to its record: the place in `DAMAGES`.
@@ -85,6 +89,7 @@ impl Counts {
         count_each(&mut self.grounds, &GROUNDS, call, left);
         if left.answer == 0 {
             count_each(&mut self.done, &DONE, call, left);
+            self.issued.count(&left.command, left.lengths[1]);
         }
         if name != 0 {
             self.count_record(call, damage, left);
@@ -107,8 +112,8 @@ impl Counts {
         }
     }
 
-    /// Whether each answer that a call can come to, each damage, each size and
-    /// each row of the tables was met.
+    /// Whether each answer that a call can come to, each damage, each size,
+    /// each byte 2 and each row of the tables was met.
     #[cfg(test)]
     pub fn are_everywhere(&self) -> bool {
         let mut calls = self.answers.iter().zip(ANSWERS);
@@ -120,6 +125,8 @@ impl Counts {
                 &self.handed[..],
                 &self.handed_done,
                 &self.done,
+                &self.issued.0,
+                &self.issued_by_groups.0,
                 &self.grounds,
             ]
             .iter()
@@ -161,6 +168,8 @@ fn answer_name(answer: usize) -> String {
 impl fmt::Display for Counts {
     fn fmt(&self, out: &mut fmt::Formatter<'_>) -> fmt::Result {
         write_row(out, "calls of their groups before", self.of_groups)?;
+        self.issued_by_groups
+            .write(out, "commands issued by them")?;
         for (call, (answers, possible)) in CALLS.iter().zip(self.answers.iter().zip(ANSWERS)) {
             write_row(out, call, answers.iter().sum())?;
             for &answer in possible {
@@ -172,6 +181,7 @@ impl fmt::Display for Counts {
         for ((name, _), &count) in DONE.iter().zip(&self.done) {
             write_row(out, &format!("  {name}"), count)?;
         }
+        self.issued.write(out, "commands issued")?;
         writeln!(out, "grounds and areas")?;
         for ((name, _), &count) in GROUNDS.iter().zip(&self.grounds) {
             write_row(out, &format!("  {name}"), count)?;

@@ -4,6 +4,7 @@
 
 use crate::areas::Sizes;
 use crate::handed_readings;
+use crate::issued::Issued;
 use crate::law_call;
 use crate::prng::Prng;
 use crate::record_calls::{called_by_both, Asked, Call, Making, ENOUGH};
@@ -21,6 +22,8 @@ pub struct Group {
     left: usize,
     /// Calls that it made.
     pub calls: usize,
+    /// Commands that it issued.
+    pub issued: Issued,
 }
 
 impl Group {
@@ -48,6 +51,7 @@ impl Group {
             traffic: Traffic::default(),
             left: boxes.into(),
             calls: 0,
+            issued: Issued::default(),
         };
         for own in 1..=boxes {
             group.records.push(vec![]);
@@ -82,6 +86,7 @@ impl Group {
                 if call.asked.is_step() {
                     let boxes = self.records.len();
                     self.traffic.send(boxes, place, left.sent());
+                    self.issued.count(&left.command, left.lengths[1]);
                 }
                 Ok(())
             }

@@ -34,7 +34,7 @@ pub fn compare(seed: u64, number: usize, counts: &mut Counts) -> Result<(), Stri
         return Err(format!("a whole record is refused: {call:?}"));
     }
     check_given_back(&call, &left)?;
-    counts.count_group(group.calls);
+    counts.count_group(group.calls, group.issued);
     counts.count(&call, damage, &left);
     Ok(())
 }

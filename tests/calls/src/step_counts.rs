@@ -5,6 +5,7 @@ use std::fmt;
 use steps::IGNORED;
 
 use crate::events::Event;
+use crate::issued::Issued;
 use crate::report::write_row;
 use crate::step_tables::{StepTest, DONE, GROUNDS, ODD, READINGS};
 use crate::steps::{Call, Left};
@@ -25,6 +26,7 @@ pub struct Counts {
     /// By event and answer; ignored is at place 13.
     answers: [[usize; 14]; 4],
     done: [usize; DONE.len()],
+    issued: Issued,
     readings: [usize; READINGS.len()],
     /// Ignored on this ground and no other.
     grounds: [usize; GROUNDS.len()],
@@ -54,6 +56,7 @@ impl Counts {
         }
         if left.answer == 0 {
             count_each(&mut self.done, &DONE, call, left);
+            self.issued.count(&left.command, left.lengths[1]);
         }
         count_each(&mut self.readings, &READINGS, call, left);
     }
@@ -66,15 +69,21 @@ impl Counts {
         }
     }
 
-    /// Whether each answer that an event can come to, each rule, each ground
-    /// for ignoring and each oddity was met.
+    /// Whether each answer that an event can come to, each rule, each byte 2,
+    /// each ground for ignoring and each oddity was met.
     #[cfg(test)]
     pub fn are_everywhere(&self) -> bool {
         let mut events = self.answers.iter().zip(ANSWERS);
         events.all(|(answers, possible)| possible.iter().all(|&answer| answers[answer] > 0))
-            && [&self.done[..], &self.readings, &self.grounds, &self.odd]
-                .iter()
-                .all(|counts| counts.iter().all(|&count| count > 0))
+            && [
+                &self.done[..],
+                &self.issued.0,
+                &self.readings,
+                &self.grounds,
+                &self.odd,
+            ]
+            .iter()
+            .all(|counts| counts.iter().all(|&count| count > 0))
     }
 }
 
@@ -105,6 +114,7 @@ impl fmt::Display for Counts {
         for ((name, _), &count) in DONE.iter().zip(&self.done) {
             write_row(out, &format!("  {name}"), count)?;
         }
+        self.issued.write(out, "commands issued")?;
         writeln!(out, "readings of ticks")?;
         for ((name, _), &count) in READINGS.iter().zip(&self.readings) {
             write_row(out, &format!("  {name}"), count)?;

@@ -3,6 +3,7 @@
 
 use winder::{IGNORED, RECORD, TICKETED};
 
+use crate::issued::Issued;
 use crate::record_calls::{self, Asked, Lent, Making};
 use crate::record_layout::Record;
 use crate::ticket_calls::{called_by_both, Call, Event, Left, Name, Ticket};
@@ -18,6 +19,8 @@ pub struct TicketBox {
     pub replica: Replica,
     stored: Record,
     pub spent: Spent,
+    /// Commands that its asks and its steps gave.
+    pub issued: Issued,
 }
 
 /// The last ticket of each sort that is not to be taken any more.
@@ -46,6 +49,7 @@ impl TicketBox {
             replica,
             stored,
             spent,
+            issued: Issued::default(),
         })
     }
 
@@ -138,6 +142,7 @@ impl TicketBox {
         };
         let left = called_by_both(&call)?;
         self.replica.copy_from_slice(&left.replica[..TICKETED]);
+        self.issued.count(&left.command, left.lengths[1]);
         Ok(left)
     }
 }

@@ -4,6 +4,7 @@ use std::fmt;
 
 use winder::IGNORED;
 
+use crate::issued::{Issued, BYTES};
 use crate::report::write_row;
 use crate::ticket_calls::{Call, Event, Left, Name};
 use crate::ticket_damage::Damage;
@@ -44,6 +45,7 @@ const ANSWERS: [&[usize]; 8] = [
 #[derive(Debug, Default)]
 pub struct Counts {
     of_groups: [usize; ticket_group::CALLS.len()],
+    issued_by_groups: Issued,
     answers: [[usize; AS_IGNORED + 1]; CALLS.len()],
     /// Asks that were held against their steps; those that were ok also
     /// against their commits.
@@ -54,15 +56,18 @@ pub struct Counts {
     tickets: [[usize; 2]; TICKETS.len()],
     /// Asked, and made.
     done: [[usize; 2]; DONE.len()],
+    /// The same of commands.
+    issued: [Issued; 2],
     opened: [usize; OPENED.len()],
     grounds: [usize; GROUNDS.len()],
 }
 
 impl Counts {
-    pub fn count_group(&mut self, calls: &[usize]) {
+    pub fn count_group(&mut self, calls: &[usize], issued: Issued) {
         for (count, calls) in self.of_groups.iter_mut().zip(calls) {
             *count += calls;
         }
+        self.issued_by_groups.add(issued);
     }
 
     /// An ask that gave what its step gives.
@@ -97,6 +102,7 @@ impl Counts {
         for (counts, (_, test)) in self.done.iter_mut().zip(DONE) {
             counts[usize::from(is_made)] += usize::from(test(event, arrived(event), sent));
         }
+        self.issued[usize::from(is_made)].count(&left.command, left.lengths[1]);
     }
 
     fn count_whole(&mut self, call: &Call, left: &Left) {
@@ -115,13 +121,22 @@ impl Counts {
         }
     }
 
-    /// Whether each answer that a call can come to, each damage and each row of
-    /// the tables was met.
+    /// Whether each answer that a call can come to, each damage, each byte 2 and
+    /// each row of the tables was met.
     #[cfg(test)]
     pub fn are_everywhere(&self) -> bool {
         let mut calls = self.answers.iter().zip(ANSWERS);
         let pairs: [&[[usize; 2]]; 2] = [&self.handed, &self.done];
-        let single: [&[usize]; 4] = [&self.of_groups, &self.as_steps, &self.opened, &self.grounds];
+        let [asked, made] = &self.issued;
+        let single: [&[usize]; 7] = [
+            &self.of_groups,
+            &self.issued_by_groups.0,
+            &self.as_steps,
+            &asked.0,
+            &made.0,
+            &self.opened,
+            &self.grounds,
+        ];
         calls.all(|(answers, possible)| possible.iter().all(|&answer| answers[answer] > 0))
             && self.damages.are_everywhere()
             && self.tickets[0][0] > 0
@@ -200,6 +215,8 @@ impl fmt::Display for Counts {
         for (name, &count) in ticket_group::CALLS.iter().zip(&self.of_groups) {
             write_row(out, &format!("  {name}"), count)?;
         }
+        self.issued_by_groups
+            .write(out, "commands asked or issued by them")?;
         for (call, (answers, possible)) in CALLS.iter().zip(self.answers.iter().zip(ANSWERS)) {
             write_row(out, call, answers.iter().sum())?;
             for &answer in possible {
@@ -221,6 +238,10 @@ impl fmt::Display for Counts {
         )?;
         let names = DONE.iter().map(|(name, _)| *name);
         write_table(out, ["what was done", "asked", "made"], names, &self.done)?;
+        let [asked, made] = self.issued;
+        let issued = [0, 1].map(|byte| [asked.0[byte], made.0[byte]]);
+        let names = BYTES.iter().copied();
+        write_table(out, ["commands", "asked", "made"], names, &issued)?;
         write_rows(out, "open tickets", &OPENED, &self.opened)?;
         write_rows(out, "grounds and areas", &GROUNDS, &self.grounds)
     }

@@ -3,6 +3,7 @@
 //! return.
 
 use crate::handed_readings;
+use crate::issued::Issued;
 use crate::law_call;
 use crate::prng::Prng;
 use crate::record_calls::Making;
@@ -192,6 +193,15 @@ impl Group {
             }
         }
         Ok(())
+    }
+
+    /// Commands that asks and steps of all boxes gave.
+    pub fn issued(&self) -> Issued {
+        let mut issued = Issued::default();
+        for one in &self.boxes {
+            issued.add(one.issued);
+        }
+        issued
     }
 
     /// One box, more often one in view-change mode, and the frames of all.

@@ -17,7 +17,7 @@ use crate::ticket_lent;
 pub fn compare(seed: u64, number: usize, counts: &mut Counts) -> Result<(), String> {
     let prng = &mut Prng::of_script(seed, number);
     let group = Group::live(prng)?;
-    counts.count_group(&group.calls);
+    counts.count_group(&group.calls, group.issued());
     let (mut one, traffic) = group.into_one(prng);
     ticket_events::open_one(prng, &mut one, &traffic)?;
     ticket_events::push_numbers(prng, &mut one);

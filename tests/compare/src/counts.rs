@@ -1,12 +1,14 @@
 //! What occurred over a run, counted by the generator while it writes.
 
 mod asks;
+mod marks;
 
 use std::fmt;
 
 use second::reading::Reading;
 
 pub use asks::{Asks, Ground};
+pub use marks::Marks;
 
 use crate::single_bits::{converted, CLASSES};
 
@@ -74,6 +76,7 @@ pub struct Counts {
     pub frames_never_left: usize,
     pub commands_never_left: usize,
     pub asks: Asks,
+    pub marks: Marks,
     /// By refusal number; place 0 is unused. Those of asks are counted apart.
     pub refused: [usize; 18],
 }
@@ -178,7 +181,7 @@ impl fmt::Display for Counts {
             writeln!(out, "{name:<34}{count:>9}")?;
         }
         self.write_power(out)?;
-        write!(out, "{}", self.asks)?;
+        write!(out, "{}{}", self.asks, self.marks)?;
         self.write_readings(out)?;
         for (number, count) in self.refused.iter().enumerate().skip(1) {
             if !Self::is_an_answer(number) {

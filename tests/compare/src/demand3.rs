@@ -13,24 +13,17 @@
 //! L6: "the commit counts as writing and sending what its ask gave". The row of
 //! a tick that was asked is behind a box from its commit on, or from a return
 //! from its record.
+//!
+//! L7: command k has the mark of step k and of itself. The mark is no function
+//! of the state, so that of two rows that lead to one state only one may serve.
 
-use std::collections::{BTreeMap, HashMap};
-
-use second::law::{self, Settings, State};
+mod seen;
 
 use crate::behind::Behind;
 use crate::group::Group;
 use crate::leaving::leaving;
-use crate::past::{Past, Row};
 use crate::played::{self, Host, Played, What};
-
-/// With more states than this the search forgets them all and goes on from
-/// the next decided state that shows.
-const MOST_STATES: usize = 20_000;
-
-/// The same with more updates than this from one decided period to the next:
-/// a group may miss thousands of periods.
-const MOST_UPDATES: usize = 1_000_000;
+pub use seen::Seen;
 
 /// What the check came to for one output.
 #[derive(Clone, Copy, Debug, Default, PartialEq, Eq)]
@@ -44,6 +37,9 @@ pub struct Checked {
     /// Of those searched, such as need the all-absent row of a missed period,
     /// their own or one since the last decided period before.
     pub missed_needed: usize,
+    /// Of those searched, such as have the state that gives the command also by
+    /// rows that would mark it otherwise, and so do not serve.
+    pub marks_told_apart: usize,
 }
 
 /// Gives what does not fit, if anything.
@@ -120,155 +116,10 @@ impl Reader {
     }
 }
 
-/// All that the check takes from a history, by period.
-#[derive(Default)]
-pub struct Seen {
-    /// A row is a missed one where no box was handed it.
-    rows: BTreeMap<u32, Vec<Row>>,
-    commands: BTreeMap<u32, Vec<i32>>,
-    states: BTreeMap<u32, Vec<i32>>,
-}
-
-/// The states reached, each with whether that takes no row of a missed period
-/// since the last decided one.
-type Reached = HashMap<State, bool>;
-
-impl Seen {
-    pub fn take_command(&mut self, period: u32, command: Vec<i32>) -> Result<(), String> {
-        note(&mut self.commands, period, command, "commands")
-    }
-
-    pub fn take_state(&mut self, period: u32, state: Vec<i32>) -> Result<(), String> {
-        note(&mut self.states, period, state, "decided states")
-    }
-
-    /// Takes the rows behind a box at the end, once all commands are taken.
-    pub fn take_rows(&mut self, past: &Past) {
-        let periods = 1..=self.last_decided();
-        for (period, row) in periods.zip(past.rows()) {
-            let rows = self.rows.entry(period).or_default();
-            match rows.iter_mut().find(|known| known.readings == row.readings) {
-                Some(known) => known.is_missed &= row.is_missed,
-                None => rows.push(*row),
-            }
-        }
-    }
-
-    fn last_decided(&self) -> u32 {
-        self.commands.keys().next_back().copied().unwrap_or(0)
-    }
-
-    /// Follows the single controller over all choices of rows at once.
-    pub fn search(&self, settings: &Settings) -> Result<Checked, String> {
-        let mut checked = Checked {
-            decided_periods: self.commands.len(),
-            missed_somewhere: self.missed_somewhere(),
-            ..Checked::default()
-        };
-        let mut reached = Some(Reached::from([(start(settings), true)]));
-        let mut updates = 0;
-        for period in 1..=self.last_decided() {
-            reached = reached.and_then(|states| self.step(settings, period, &states, &mut updates));
-            if !self.commands.contains_key(&period) {
-                continue;
-            }
-            updates = 0;
-            match &mut reached {
-                Some(states) => {
-                    states.retain(|state, _| self.fits(settings, period, state));
-                    if states.is_empty() {
-                        return Err(format!("period {period}: no choice of rows gives it"));
-                    }
-                    checked.searched_periods += 1;
-                    let without = states.values().any(|&without| without);
-                    checked.missed_needed += usize::from(!without);
-                    states.values_mut().for_each(|without| *without = true);
-                }
-                None => {
-                    let state = self.shown_state(period);
-                    reached = state.map(|state| Reached::from([(state, true)]));
-                }
-            }
-        }
-        Ok(checked)
-    }
-
-    fn missed_somewhere(&self) -> usize {
-        let is_missed = |period| {
-            let rows = self.rows.get(period);
-            rows.is_some_and(|rows| rows.iter().any(|row| row.is_missed))
-        };
-        self.commands
-            .keys()
-            .filter(|period| is_missed(period))
-            .count()
-    }
-
-    /// The states after one more period; none if there are too many.
-    fn step(
-        &self,
-        settings: &Settings,
-        period: u32,
-        states: &Reached,
-        updates: &mut usize,
-    ) -> Option<Reached> {
-        let rows = self.rows.get(&period).map_or(&[][..], Vec::as_slice);
-        let mut next = Reached::new();
-        for (state, without) in states {
-            for row in rows {
-                let state = law::update(settings, state, &row.readings).expect("good settings");
-                *next.entry(state).or_default() |= without & !row.is_missed;
-            }
-            *updates += rows.len();
-            if next.len() > MOST_STATES || *updates > MOST_UPDATES {
-                return None;
-            }
-        }
-        Some(next)
-    }
-
-    /// Whether a state gives the period's command and is the decided state
-    /// that showed, if one did.
-    fn fits(&self, settings: &Settings, period: u32, state: &State) -> bool {
-        let (n, p) = (usize::from(settings.n), usize::from(settings.p));
-        let command = law::command(settings, state).expect("good settings");
-        self.commands[&period] == command[..p]
-            && (self.states.get(&period)).is_none_or(|shown| *shown == state[..n])
-    }
-
-    fn shown_state(&self, period: u32) -> Option<State> {
-        let mut state = State::default();
-        let shown = self.states.get(&period)?;
-        state.get_mut(..shown.len())?.copy_from_slice(shown);
-        Some(state)
-    }
-}
-
-/// Enters a period's value, which must be the one entered before, if any.
-fn note(
-    known: &mut BTreeMap<u32, Vec<i32>>,
-    period: u32,
-    value: Vec<i32>,
-    what: &str,
-) -> Result<(), String> {
-    let first = known.entry(period).or_insert_with(|| value.clone());
-    if *first == value {
-        return Ok(());
-    }
-    Err(format!(
-        "period {period}: two {what}, {first:?} and {value:?}"
-    ))
-}
-
-fn start(settings: &Settings) -> State {
-    let mut state = State::default();
-    let n = usize::from(settings.n);
-    state[..n].copy_from_slice(&settings.start[..n]);
-    state
-}
-
 #[cfg(test)]
 mod asked;
+#[cfg(test)]
+mod marks;
 
 #[cfg(test)]
 mod tests {
@@ -448,8 +299,8 @@ mod tests {
         let expected = Checked {
             decided_periods: 2,
             searched_periods: 2,
-            missed_somewhere: 0,
             missed_needed: 1,
+            ..Checked::default()
         };
         assert_eq!(checked_storing(&format!("{STORED}{lines}")), Ok(expected));
     }
@@ -463,7 +314,7 @@ mod tests {
             decided_periods: 2,
             searched_periods: 2,
             missed_somewhere: 1,
-            missed_needed: 0,
+            ..Checked::default()
         };
         assert_eq!(checked_storing(&format!("{STORED}{lines}")), Ok(expected));
     }

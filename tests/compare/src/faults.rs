@@ -1,7 +1,8 @@
 //! Whether the comparison finds faults planted on purpose, and how soon.
 
 use second::fault::{
-    planted, Fault, NAMES, READING_NAMES, RECORD_NAMES, ROUNDING_NAMES, STORE_NAMES, TICKET_NAMES,
+    planted, Fault, LAW_MARK_NAMES, MARK_NAMES, NAMES, READING_NAMES, RECORD_NAMES, ROUNDING_NAMES,
+    STORE_NAMES, TICKET_NAMES,
 };
 
 use crate::counts::Counts;
@@ -25,7 +26,7 @@ pub fn table(seed: u64, second: impl Fn() -> Result<Programs, String>) -> Result
     let mut all_found = true;
     let names = NAMES.into_iter().chain(READING_NAMES).chain(ROUNDING_NAMES);
     let names = names.chain(RECORD_NAMES).chain(STORE_NAMES);
-    let names = names.chain(TICKET_NAMES);
+    let names = names.chain(TICKET_NAMES).chain(MARK_NAMES);
     for (name, fault) in names.filter(shows) {
         let is_safe = keeps_demand3(fault);
         let found = look_for(seed, fault, &second()?.with_fault(name))?;
@@ -57,8 +58,8 @@ fn shown(first: Option<usize>) -> String {
 /// Whether the check of demand 3 has the fault too where it runs in a process
 /// with it: its law is the second implementation's.
 fn is_of_law(fault: Fault) -> bool {
-    let of_rounding = ROUNDING_NAMES.iter().any(|(_, known)| *known == fault);
-    of_rounding || fault == Fault::RoundToZero
+    let mut of_law = ROUNDING_NAMES.iter().chain(&LAW_MARK_NAMES);
+    of_law.any(|(_, known)| *known == fault) || fault == Fault::RoundToZero
 }
 
 /// Whether scripts can show a fault: no script has a word for a reading at or

@@ -3,11 +3,13 @@
 
 mod asks;
 mod power;
+mod pressing;
 
 use crate::counts::Counts;
 use crate::group::Group;
 use crate::played::Host;
 use crate::prng::Prng;
+use crate::stops::{Aim, Stops};
 use crate::writer::{Asking, Writer};
 
 /// "It reads at most 500 lines"
@@ -35,10 +37,15 @@ pub fn script(seed: u64, number: usize, counts: &mut Counts) -> Script {
     if number.is_multiple_of(ONE_STORING) {
         return storing_script(prng, number.is_multiple_of(ONE_ASKING), counts);
     }
+    let apart = prng.apart();
     let is_rig = !prng.chance(20);
-    let group = match is_rig {
+    let mut group = match is_rig {
         true => Group::random(prng),
         false => Group::bench(),
+    };
+    let stops = match is_rig {
+        true => Stops::of_rig(apart, &mut group),
+        false => Stops::of_bench(apart),
     };
     if is_rig && prng.chance(6) {
         return spoiled_script(prng, group, counts);
@@ -47,7 +54,7 @@ pub fn script(seed: u64, number: usize, counts: &mut Counts) -> Script {
         true => counts.rig_scripts += 1,
         false => counts.bench_scripts += 1,
     }
-    let lines = written_lines(prng, group, Host::Plain, None, counts);
+    let lines = written_lines(prng, group, Host::Plain, stops, None, counts);
     let first_line = is_rig.then(|| group.first_line());
     Script {
         is_rig,
@@ -64,11 +71,13 @@ fn storing_script(prng: &mut Prng, asks: bool, counts: &mut Counts) -> Script {
     counts.rig_scripts += 1;
     counts.storing_scripts += 1;
     counts.asking_scripts += usize::from(asks);
+    let apart = prng.apart();
     let mut group = Group::random(prng);
+    let stops = Stops::of_rig(apart, &mut group);
     // Most groups are small, for the sake of more periods in a script.
     group.boxes = prng.pick(&[3, 3, 3, 4, 4, 5, 5, 6, 7, 8, 9]);
     let asking = asks.then(|| Asking::random(prng));
-    let lines = written_lines(prng, group, Host::Storing, asking, counts);
+    let lines = written_lines(prng, group, Host::Storing, stops, asking, counts);
     Script {
         is_rig: true,
         group,
@@ -83,6 +92,7 @@ fn written_lines(
     prng: &mut Prng,
     group: Group,
     host: Host,
+    stops: Stops,
     asking: Option<Asking>,
     counts: &mut Counts,
 ) -> Vec<Vec<u8>> {
@@ -96,7 +106,12 @@ fn written_lines(
         false => prng.between(least, MOST_LINES),
     };
     let mut course = Course::new(prng, counts, group, host, limit as usize);
+    let is_pressed = stops.aim == Some(Aim::Pressed);
+    course.writer.stops = Some(stops);
     course.writer.asking = asking;
+    if is_pressed {
+        course.press();
+    }
     while !course.writer.is_full() {
         course.period();
     }
@@ -558,101 +573,4 @@ impl<'a> Course<'a> {
 }
 
 #[cfg(test)]
-mod tests {
-    use super::*;
-
-    /// A change of the generator must not lose a case unseen.
-    #[test]
-    fn every_case_occurs() {
-        let mut counts = Counts::default();
-        for number in 1..=300 {
-            script(1, number, &mut counts);
-        }
-        let cases = [
-            counts.bench_scripts,
-            counts.rig_scripts,
-            counts.spoiled_scripts,
-            counts.made_up_ticks,
-            counts.give_ups,
-            counts.doubled,
-            counts.late,
-            counts.misdirected,
-            counts.decisions - counts.decisions_above_view_0,
-            counts.decisions_above_view_0,
-            counts.decided_after_missed,
-            counts.open_taken_over,
-            counts.older_taken_over,
-            counts.stopped_boxes,
-            counts.malformed,
-            counts.ignored,
-            counts.refused[9],
-            counts.refused[10],
-        ];
-        let power = [
-            counts.storing_scripts,
-            counts.stores,
-            counts.steps_lost,
-            counts.frames_never_left,
-            counts.commands_never_left,
-            counts.blackouts,
-            counts.refused[16],
-            counts.asking_scripts,
-            counts.refused[17],
-        ];
-        let readings = [
-            counts.handed_counts,
-            counts.handed_missing,
-            counts.handed_singles,
-            counts.missing_singles,
-        ];
-        let asks = counts.asks.all();
-        let cases = cases.iter().chain(&readings).chain(&counts.single_classes);
-        let mut cases = cases.chain(&power).chain(&counts.returns).chain(&asks);
-        // Returns with 10,000 missed periods take time, so there are few.
-        assert!(cases.all(|&count| count >= 5), "{counts}");
-    }
-
-    #[test]
-    fn only_rig_scripts_have_singles() {
-        let mut met = [false; 2];
-        for number in 1..=100 {
-            let mut counts = Counts::default();
-            let script = script(3, number, &mut counts);
-            met[usize::from(script.is_rig)] |= counts.handed_singles > 0;
-        }
-        assert_eq!(met, [false, true]);
-    }
-
-    /// One script in three, and groups of every size.
-    #[test]
-    fn scripts_with_power_cycles_are_of_every_group_size() {
-        let mut met = [0; 10];
-        for number in 1..=150 {
-            let script = script(6, number, &mut Counts::default());
-            assert_eq!(script.host == Host::Storing, number % 3 == 0);
-            if script.host == Host::Storing {
-                assert!(script.is_rig);
-                met[usize::from(script.group.boxes)] += 1;
-            }
-        }
-        assert!(met[3..].iter().all(|&count| count > 0), "{met:?}");
-    }
-
-    /// Half of the scripts with power cycles have asks, the others none.
-    #[test]
-    fn every_second_script_with_power_cycles_has_asks() {
-        for number in 1..=60 {
-            let mut counts = Counts::default();
-            let script = script(8, number, &mut counts);
-            assert_eq!(counts.asks.ok > 0, number % 6 == 0, "{number}");
-            assert!(script.host == Host::Storing || counts.asks == Default::default());
-        }
-    }
-
-    #[test]
-    fn scripts_are_made_again_from_seed_and_number() {
-        let input = |seed, number| script(seed, number, &mut Counts::default()).input;
-        assert_eq!(input(4, 9), input(4, 9));
-        assert_ne!(input(4, 9), input(4, 10));
-    }
-}
+mod tests;

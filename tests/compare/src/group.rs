@@ -7,7 +7,7 @@ use second::script::bench_settings;
 use crate::prng::Prng;
 
 /// 1 in the units of the coefficients.
-const ONE: i32 = 65_536;
+pub const ONE: i32 = 65_536;
 
 /// Words that are no number within i32; a single is one of them.
 const NO_NUMBERS: [&str; 9] = [
@@ -125,6 +125,15 @@ fn fill_coefficients(prng: &mut Prng, settings: &mut Settings) {
         6..=8 => Manner::TameWithEnds,
         _ => Manner::Wild,
     };
+    fill(prng, manner, settings);
+}
+
+/// Tame coefficients in all tables.
+pub fn fill_tame(prng: &mut Prng, settings: &mut Settings) {
+    fill(prng, Manner::Tame, settings);
+}
+
+fn fill(prng: &mut Prng, manner: Manner, settings: &mut Settings) {
     for (i, row) in settings.a.iter_mut().enumerate() {
         for (j, place) in row.iter_mut().enumerate() {
             let tame = if i == j {

@@ -4,7 +4,10 @@
 #![forbid(unsafe_code)]
 
 mod behind;
+mod clamps;
+mod command;
 mod counts;
+mod decision;
 mod demand3;
 mod faults;
 mod generator;
@@ -20,6 +23,7 @@ mod run;
 mod scripts;
 mod single_bits;
 mod station;
+mod stops;
 mod words;
 mod writer;
 

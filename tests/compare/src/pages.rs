@@ -1,6 +1,8 @@
 //! The comparison of the programs `page` on what generated scripts print, whole
 //! and with damaged lines.
 
+mod stars;
+
 use std::process::{Command, Stdio};
 use std::{fmt, thread};
 
@@ -10,6 +12,7 @@ use crate::counts::Counts;
 use crate::generator;
 use crate::prng::Prng;
 use crate::run::{library, talk};
+use stars::Stars;
 
 /// So many lines are looked at by the first implementation; the second has no
 /// such limit.
@@ -34,6 +37,7 @@ pub fn compare(count: usize, seed: u64, page: &str) -> Result<(), String> {
         }
         tally.count(&found);
         tally.count_asks(&text);
+        tally.stars.count(&text);
     }
     print!("{count} texts of seed {seed}: no difference\n{tally}");
     Ok(())
@@ -82,6 +86,7 @@ fn damaged(text: &[u8], prng: &mut Prng) -> Vec<u8> {
         .map(<[u8]>::to_vec)
         .collect();
     lines.pop();
+    stars::misplace(&mut lines, &mut prng.apart());
     for _ in 0..1 + prng.below(20) {
         let at = prng.below(lines.len());
         damage(&mut lines[at], prng);
@@ -178,6 +183,7 @@ struct Tally {
     asking: usize,
     asks: usize,
     refused_commits: usize,
+    stars: Stars,
 }
 
 impl Tally {
@@ -220,6 +226,6 @@ impl fmt::Display for Tally {
         for (name, count) in named {
             writeln!(out, "{name:<34}{count:>9}")?;
         }
-        Ok(())
+        write!(out, "{}", self.stars)
     }
 }

@@ -1,8 +1,10 @@
 //! A script's lines beside what was printed for them, as far as a check of
 //! histories looks at them.
 
-use crate::words::{number, row, values};
 use second::law::Readings;
+
+use crate::command::Command;
+use crate::words::{number, row, values};
 
 /// What leaves, and when.
 #[derive(Clone, Copy, Debug, PartialEq, Eq)]
@@ -23,7 +25,7 @@ pub struct Played {
     pub what: What,
     pub period: u32,
     pub state: Vec<i32>,
-    pub command: Option<Vec<i32>>,
+    pub command: Option<Command>,
 }
 
 pub enum What {
@@ -80,7 +82,7 @@ fn read(line: &[u8], row: &str) -> Result<Option<Played>, String> {
     let read = || {
         let command = match command {
             "-" => None,
-            field => Some(values(field)?),
+            field => Some(Command::printed(field)?),
         };
         Some(Played {
             place: number::<usize>(who)?.checked_sub(1)?,
@@ -139,6 +141,10 @@ mod tests {
             "1 0 ok 1 0 0 1 0 - -",
             "1 1 ok 1 0 0 1 x - -",
             "1 1 ok 1 0 0 1 0 - x",
+            "1 1 ok 1 0 0 1 0 - -*",
+            "1 1 ok 1 0 0 1 0 - 1*,2",
+            "1 1 ok 1 0 0 1 0* - 1",
+            "1 1 ok 1 0 0 1 0 - 1 *",
             "1 1 ok 1 0 0 1 0 - - 1",
         ] {
             let output = format!("header\n{row}\n");

@@ -20,6 +20,12 @@ impl Prng {
         Prng::new(mixed ^ (number as u64).wrapping_mul(STRIDE.rotate_left(32)))
     }
 
+    /// A generator beside this one that takes nothing from it: what is drawn
+    /// there leaves what this one gives as it was.
+    pub fn apart(&self) -> Prng {
+        Prng::new(Prng::new(!self.state).next())
+    }
+
     pub fn next(&mut self) -> u64 {
         self.state = self.state.wrapping_add(STRIDE);
         let mut mixed = self.state;
@@ -79,6 +85,21 @@ mod tests {
         assert_eq!(first(1, 2), first(1, 2));
         assert_ne!(first(1, 2), first(2, 1));
         assert_ne!(first(1, 1), first(1, 2));
+    }
+
+    #[test]
+    fn a_generator_apart_takes_nothing() {
+        let mut prng = Prng::of_script(1, 2);
+        let mut apart = prng.apart();
+        assert_ne!(apart.next(), prng.next());
+        assert_eq!(prng.next(), {
+            let mut alone = Prng::of_script(1, 2);
+            alone.next();
+            alone.next()
+        });
+        let first = |number| Prng::of_script(1, number).apart().next();
+        assert_eq!(first(2), first(2));
+        assert_ne!(first(2), first(3));
     }
 
     #[test]

@@ -26,6 +26,10 @@ pub fn compare(count: usize, seed: u64, sides: &Sides) -> Result<(), String> {
         let script = generator::script(seed, number, &mut counts);
         let malformed = counts.malformed - before;
         let output = agreed_output(sides, &script);
+        let output = output.and_then(|output| match counts.marks.otherwise {
+            0 => Ok(output),
+            _ => Err("a command is not marked as the law's formulas have it".to_string()),
+        });
         let checked = output.and_then(|output| match &script.lines {
             Some(lines) => tally.check(&script, lines, &output, malformed),
             None => {
@@ -80,6 +84,7 @@ impl Tally {
         self.periods.searched_periods += checked.searched_periods;
         self.periods.missed_somewhere += checked.missed_somewhere;
         self.periods.missed_needed += checked.missed_needed;
+        self.periods.marks_told_apart += checked.marks_told_apart;
         Ok(())
     }
 }
@@ -95,6 +100,10 @@ impl fmt::Display for Tally {
                 self.periods.missed_somewhere,
             ),
             ("  that need one", self.periods.missed_needed),
+            (
+                "  with a row of another mark",
+                self.periods.marks_told_apart,
+            ),
         ];
         for (name, count) in named {
             writeln!(out, "{name:<34}{count:>9}")?;

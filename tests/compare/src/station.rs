@@ -6,6 +6,8 @@ use second::refusal::Refusal;
 use second::replica::Replica;
 use second::tickets::Tickets;
 
+use crate::decision::Decision;
+
 /// "missed count over 10,000" is refused.
 pub const MOST_MISSED: u32 = 10_000;
 
@@ -14,8 +16,8 @@ pub const MOST_MISSED: u32 = 10_000;
 pub struct Waiting {
     /// The frame's place among those sent.
     pub frame: Option<usize>,
-    /// The period of the command.
-    pub decided: Option<u32>,
+    /// The decision whose command it wrote.
+    pub decided: Option<Decision>,
 }
 
 /// What an ask gave.
@@ -27,7 +29,8 @@ pub struct Ask {
     /// The period of the replica that it would make.
     pub period: u32,
     pub frame: Vec<u8>,
-    pub has_command: bool,
+    /// The decision that its step makes.
+    pub decided: Option<Decision>,
     pub is_stored: bool,
     pub is_committed: bool,
     /// Whether nothing has occurred at the box since its commit.
@@ -61,6 +64,8 @@ pub struct Station {
     pub unstored: usize,
     /// Whether nothing has occurred since the box returned.
     pub just_returned: bool,
+    /// Whether its last command since it was made or returned was marked.
+    pub was_marked: bool,
     /// Whether the box has no power now.
     pub is_down: bool,
 }
@@ -171,7 +176,7 @@ mod tests {
             record,
             period: replica.period,
             frame: Vec::new(),
-            has_command: false,
+            decided: None,
             is_stored: false,
             is_committed: false,
             is_present: false,

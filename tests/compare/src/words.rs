@@ -52,7 +52,13 @@ fn bits(digits: &[u8]) -> Option<u32> {
 /// with the bench's group.
 #[cfg(test)]
 pub fn on_the_bench_group(lines: &str) -> (Vec<Vec<u8>>, Vec<u8>) {
-    let input = format!("{}\n{lines}", crate::group::Group::bench().first_line());
+    on_group(&crate::group::Group::bench(), lines)
+}
+
+/// The same with any group.
+#[cfg(test)]
+pub fn on_group(group: &crate::group::Group, lines: &str) -> (Vec<Vec<u8>>, Vec<u8>) {
+    let input = format!("{}\n{lines}", group.first_line());
     let mut output = Vec::new();
     second::script::rig(input.as_bytes(), &mut output).unwrap();
     let lines = lines.lines().map(|line| line.as_bytes().to_vec());

@@ -7,24 +7,26 @@ mod asked_records;
 mod asks;
 mod commits;
 mod power;
+mod rows;
 
 use std::collections::VecDeque;
 
 use second::frame::{self, Frame, ACK, COMMAND_AREA, DECIDE, ESTIMATE, FRAME_AREA, PROPOSE};
-use second::law::MAX_READINGS;
 use second::reading::{Reading, Row};
 use second::replica::{coordinator, majority, Answer, Areas, Estimate, Heard, Replica, Step};
 use second::tickets::Ticketed;
 
 use crate::counts::Counts;
+use crate::decision::Decision;
 use crate::group::Group;
 use crate::malformed;
 use crate::played::Host;
 use crate::prng::Prng;
-use crate::single_bits;
 use crate::station::{Station, Waiting};
+use crate::stops::Stops;
 pub use asked_acks::AskedAck;
 pub use asks::Asking;
+use rows::Rows;
 
 /// How often, of a hundred lines, something out of order follows.
 #[derive(Clone, Copy, Default)]
@@ -35,19 +37,6 @@ pub struct Disturbances {
     pub misdirected: usize,
     /// A box loses its power, and returns at once or later.
     pub power_cuts: usize,
-}
-
-/// How a script's readings are drawn.
-#[derive(Clone, Copy)]
-pub struct Rows {
-    /// So many different rows a period are handed out, which bounds the
-    /// search of the demand-3 check.
-    pub variety: usize,
-    pub largest: i32,
-    /// Of a hundred places, those without a reading.
-    pub absent: usize,
-    /// Of a hundred readings, those that are singles.
-    pub singles: usize,
 }
 
 /// So many periods from the others are far.
@@ -85,6 +74,8 @@ pub struct Writer<'a> {
     pub stations: Vec<Station>,
     /// None where no event is asked.
     pub asking: Option<Asking>,
+    /// What readings are aimed by, if they are.
+    pub stops: Option<Stops>,
     /// Whether the next event is asked, if that is not left to chance.
     only: Option<bool>,
     group: Group,
@@ -149,6 +140,7 @@ impl<'a> Writer<'a> {
             stopped: vec![false; group.boxes.into()],
             stations: vec![Station::default(); group.boxes.into()],
             asking: None,
+            stops: None,
             only: None,
             group,
             host,
@@ -237,7 +229,7 @@ impl<'a> Writer<'a> {
         if self.is_full() || self.is_out(place) {
             return;
         }
-        let row = self.row_for(self.replicas[place].period);
+        let row = self.row_for(place);
         self.counts.ticks += 1;
         let mut text = format!("T {}", place + 1);
         for reading in &row[..self.group.settings.m.into()] {
@@ -322,11 +314,12 @@ impl<'a> Writer<'a> {
         let (held, step) = self.take_held(place).step(areas, event);
         self.put_back(place, held);
         self.lines.push(text.into_bytes());
-        self.count_step(place, &step);
+        let decided = Decision::of(&self.replicas[place], &command[..step.command_length]);
+        self.count_step(place, step.answer, decided);
         self.counts.asks.void_by_step += usize::from(was_asked && step.answer == Answer::Ok);
         let waiting = Waiting {
             frame: self.made_frame(&frame[..step.frame_length]),
-            decided: (step.command_length > 0).then_some(self.replicas[place].period),
+            decided,
         };
         match self.host {
             Host::Plain => self.leave(waiting),
@@ -374,8 +367,8 @@ impl<'a> Writer<'a> {
     /// What a step made leaves: its frame is on its way to those it is meant
     /// for, and its command counts.
     fn leave(&mut self, waiting: Waiting) {
-        if let Some(period) = waiting.decided {
-            self.count_decided(period);
+        if let Some(decision) = waiting.decided {
+            self.count_decided(&decision);
         }
         let Some(sent) = waiting.frame else { return };
         self.sent[sent].has_left = true;
@@ -395,50 +388,6 @@ impl<'a> Writer<'a> {
             ACK | ESTIMATE => others && place == self.coordinator_of(frame.view),
             _ => others,
         }
-    }
-
-    /// One of the rows made for the period after this one.
-    fn row_for(&mut self, period: u32) -> Row {
-        let place = period as usize;
-        while self.handed.len() <= place {
-            let rows = (0..self.rows.variety).map(|_| self.new_row()).collect();
-            self.handed.push(rows);
-        }
-        self.prng.pick(&self.handed[place])
-    }
-
-    /// Missing at and above m, where a script has no word for it.
-    fn new_row(&mut self) -> Row {
-        let mut row = [Reading::Missing; MAX_READINGS];
-        for reading in &mut row[..self.group.settings.m.into()] {
-            if !self.prng.chance(self.rows.absent) {
-                *reading = self.new_reading();
-            }
-        }
-        row
-    }
-
-    fn new_reading(&mut self) -> Reading {
-        if self.prng.chance(self.rows.singles) {
-            return Reading::Newtons(f32::from_bits(self.new_single()));
-        }
-        Reading::Count(match self.prng.below(50) {
-            0 => self.prng.pick(&[i32::MIN, i32::MAX, 0, -1]),
-            _ => self.value(),
-        })
-    }
-
-    /// Mostly of a count's size, for the sake of the demand-3 check.
-    fn new_single(&mut self) -> u32 {
-        let value = self.value();
-        match self.prng.below(8) {
-            0 => single_bits::special(self.prng),
-            _ => single_bits::near(self.prng, value),
-        }
-    }
-
-    fn value(&mut self) -> i32 {
-        self.prng.between(-self.rows.largest, self.rows.largest)
     }
 
     // Lines out of order.
@@ -507,28 +456,34 @@ impl<'a> Writer<'a> {
         self.counts.misdirected += usize::from(!self.is_meant_for(sent, place));
     }
 
-    fn count_step(&mut self, place: usize, step: &Step) {
-        match step.answer {
+    fn count_step(&mut self, place: usize, answer: Answer, decided: Option<Decision>) {
+        match answer {
             Answer::Ok => {}
             Answer::Ignored => self.counts.ignored += 1,
             Answer::Refused(refusal) => self.counts.refused[usize::from(refusal.number())] += 1,
         }
-        if step.command_length > 0 {
-            self.count_decision(place);
+        if let Some(decision) = decided {
+            self.count_decision(place, &decision);
         }
     }
 
-    fn count_decision(&mut self, place: usize) {
+    fn count_decision(&mut self, place: usize, decision: &Decision) {
         let replica = &self.replicas[place];
         self.counts.decisions += 1;
         self.counts.decisions_above_view_0 += usize::from(replica.view > 0);
+        let was_marked = &mut self.stations[place].was_marked;
+        self.counts.marks.count_decision(decision, *was_marked);
+        *was_marked = decision.is_marked;
     }
 
-    fn count_decided(&mut self, period: u32) {
+    fn count_decided(&mut self, decision: &Decision) {
+        let period = decision.period;
         if !self.decided.contains(&period) {
             let missed = period > 1 && !self.decided.contains(&(period - 1));
             self.counts.decided_periods += 1;
             self.counts.decided_after_missed += usize::from(missed);
+            let on_the_bench = !self.group.takes_singles;
+            self.counts.marks.count_period(decision, on_the_bench);
             self.decided.push(period);
         }
     }

@@ -315,7 +315,11 @@ fn a_wrong_wrapper_is_found() {
         ("settings->p,", ""),
         ("int32_t k[24];", "int32_t k[36];"),
         ("size_t m;", "uint32_t m;"),
-        ("values,\n        state);", "state,\n        values);"),
+        (
+            "values,\n        state,\n        limited);",
+            "state,\n        values,\n        limited);",
+        ),
+        ("commands,\n        limited);", "commands);"),
         ("return winder_command(", "return winder_update("),
         ("winder_update_with", "winder_updated_with"),
         (
@@ -397,6 +401,7 @@ fn another_size_is_found() {
     is_found("winder_make", "start[6]", "start[4]");
     is_found("winder_arrive", "lengths[2]", "*lengths");
     is_found("winder_ask_tick", "ticket[1]", "*ticket");
+    is_found("winder_read_command", "*limited", "limited[1]");
 }
 
 #[test]
@@ -418,6 +423,7 @@ fn an_added_const_is_found() {
     is_found("winder_convert_single", "int32_t *v", "const int32_t *v");
     is_found("winder_tick", "uint8_t *replica", "const uint8_t *replica");
     is_found("winder_record", "uint8_t *area", "const uint8_t *area");
+    is_found("winder_update", "uint8_t *l", "const uint8_t *l");
 }
 
 #[test]
@@ -431,11 +437,15 @@ fn another_type_is_found() {
     is_found("winder_make", "uint8_t own", "size_t own");
     is_found("winder_commit", "uint64_t ticket", "uint32_t ticket");
     is_found("winder_ask_tick", "uint64_t ticket", "int64_t ticket");
+    is_found("winder_command", "uint8_t *limited", "uint32_t *limited");
 }
 
 #[test]
 fn a_missing_parameter_is_found() {
     is_found("winder_command", "    size_t p,\n", "");
+    for name in ["winder_update", "winder_command", "winder_read_command"] {
+        is_found(name, ",\n    uint8_t *limited", "");
+    }
 }
 
 #[test]

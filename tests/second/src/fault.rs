@@ -243,6 +243,24 @@ pub enum Fault {
     /// What the step leaves of a ticket that can be committed is not looked at
     /// in a replica with tickets.
     PendingUnread,
+    /// A command's byte 2 tells of the command's limits alone.
+    OnlyCommandsMarked,
+    /// A command's byte 2 tells of the update's clamps alone.
+    OnlyUpdatesMarked,
+    /// An e(j) of an absent reading, worked out with its value 0, marks where
+    /// clamping would have changed it. The state is right.
+    AbsentMarked,
+    /// A command is marked also where the last one was that the same box
+    /// issued. A replica has no place for that, so it shows in scripts.
+    LastMarkKept,
+    /// A command's byte 2 is always 0.
+    MarksLeftZero,
+    /// A command's byte 2 tells of the update of the box's last tick, not of
+    /// the one that the command comes from. A replica has no place for that, so
+    /// it shows in scripts.
+    EstimatesUpdateMarked,
+    /// A value that stands at a limit without being changed is marked too.
+    AtLimitMarked,
 }
 
 /// The faults that scripts must find, with their names in the environment
@@ -406,6 +424,23 @@ pub const TICKET_CALL_NAMES: [(&str, Fault); 5] = [
     ("pending_unread", Fault::PendingUnread),
 ];
 
+/// The faults of marks that scripts must find.
+pub const MARK_NAMES: [(&str, Fault); 7] = [
+    ("only_commands_marked", Fault::OnlyCommandsMarked),
+    ("only_updates_marked", Fault::OnlyUpdatesMarked),
+    ("absent_marked", Fault::AbsentMarked),
+    ("last_mark_kept", Fault::LastMarkKept),
+    ("marks_left_zero", Fault::MarksLeftZero),
+    ("estimates_update_marked", Fault::EstimatesUpdateMarked),
+    ("at_limit_marked", Fault::AtLimitMarked),
+];
+
+/// The faults of marks that law calls must find too.
+pub const LAW_MARK_NAMES: [(&str, Fault); 2] = [
+    ("absent_marked", Fault::AbsentMarked),
+    ("at_limit_marked", Fault::AtLimitMarked),
+];
+
 static PLANTED: OnceLock<Fault> = OnceLock::new();
 
 /// Plants the fault that the environment names. Unset or empty: none. A name
@@ -421,6 +456,7 @@ pub fn plant_from_environment() -> Result<(), String> {
     let of_requests = of_requests.chain(&RECORD_NAMES).chain(&CALL_NAMES);
     let of_requests = of_requests.chain(&STORE_NAMES);
     let of_requests = of_requests.chain(&TICKET_NAMES).chain(&TICKET_CALL_NAMES);
+    let of_requests = of_requests.chain(&MARK_NAMES).chain(&LAW_MARK_NAMES);
     let mut known = NAMES.iter().chain(of_calls).chain(of_requests);
     let (_, fault) = known
         .find(|(known, _)| name == *known)

@@ -1,4 +1,5 @@
-//! Document 01, "Frames": the frames and the command as bytes.
+//! Document 01, "Frames": the frames and the command as bytes. Byte 2 of the
+//! command is document 02's, L7.
 //!
 //! "Reading or writing a frame as a call of its own needs only n and m: it
 //! refuses by 2 for those, writing by 5 for its area, and both by 8, in that
@@ -15,6 +16,9 @@ pub const ESTIMATE: u8 = 4;
 
 /// Byte 0 of a command.
 const COMMAND: u8 = 5;
+
+/// Where a command's bytes say whether it was limited.
+pub(crate) const LIMITED_AT: usize = 2;
 
 /// "the longest frame has 69"
 pub const FRAME_AREA: usize = 69;
@@ -235,20 +239,23 @@ fn write_values(values: &[i32], area: &mut [u8]) {
     }
 }
 
-/// "Command: byte 0 is 5, byte 1 is p, bytes 2 and 3 zero, period at 4, p i32
-/// values from 8. No sender." Gives the length; refuses by 2 for p and by 5
-/// for an area under 24 bytes.
+/// "Command: byte 0 is 5, byte 1 is p", byte 3 "zero, period at 4, p i32
+/// values from 8. No sender." Document 02: "Byte 2 of the command is 1 if that
+/// occurred in the update or the command it comes from, otherwise 0." Gives the
+/// length; refuses by 2 for p and by 5 for an area under 24 bytes.
 pub fn write_command(
     p: u8,
     period: u32,
     command: &Command,
+    limited: bool,
     area: &mut [u8],
 ) -> Result<usize, Refusal> {
     law::check_sizes(1, 1, p)?;
     if area.len() < COMMAND_AREA {
         return Err(Refusal::Areas);
     }
-    area[..4].copy_from_slice(&[COMMAND, p, 0, 0]);
+    let mark = u8::from(limited && !planted(Fault::MarksLeftZero));
+    area[..4].copy_from_slice(&[COMMAND, p, mark, 0]);
     area[4..8].copy_from_slice(&period.to_le_bytes());
     write_values(&command[..p.into()], &mut area[8..]);
     Ok(8 + VALUE * usize::from(p))
@@ -260,6 +267,16 @@ pub fn command_values(bytes: &[u8]) -> Vec<i32> {
     values
         .map(|place| i32::from_le_bytes(four(place)))
         .collect()
+}
+
+/// Whether a command's bytes say that it was limited; none where byte 2 is
+/// neither 0 nor 1, as in no command.
+pub fn command_limited(bytes: &[u8]) -> Option<bool> {
+    match bytes.get(LIMITED_AT)? {
+        0 => Some(false),
+        1 => Some(true),
+        _ => None,
+    }
 }
 
 #[cfg(test)]
@@ -405,15 +422,41 @@ mod tests {
     #[test]
     fn command_bytes() {
         let mut area = [0xAA; 24];
-        let length = write_command(2, 258, &[-1, 2, 3, 4], &mut area).unwrap();
+        let length = write_command(2, 258, &[-1, 2, 3, 4], false, &mut area).unwrap();
         let expected = [5, 2, 0, 0, 2, 1, 0, 0, 255, 255, 255, 255, 2, 0, 0, 0];
         assert_eq!(area[..length], expected);
         assert_eq!(area[length..], [0xAA; 8]);
         assert_eq!(command_values(&area[..length]), [-1, 2]);
-        let mut short = [0; 23];
-        assert_eq!(
-            write_command(1, 1, &[0; 4], &mut short),
-            Err(Refusal::Areas)
-        );
+    }
+
+    #[test]
+    fn a_limited_command_differs_in_byte_2_alone() {
+        let [plain, limited] = [false, true].map(|limited| {
+            let mut area = [0xAA; 24];
+            write_command(4, 258, &[-1, 2, 3, 4], limited, &mut area).unwrap();
+            area
+        });
+        assert_eq!(command_limited(&plain), Some(false));
+        assert_eq!(command_limited(&limited), Some(true));
+        let mut marked = plain;
+        marked[2] = 1;
+        assert_eq!(marked, limited);
+        for byte in 2..=u8::MAX {
+            marked[2] = byte;
+            assert_eq!(command_limited(&marked), None);
+        }
+        assert_eq!(command_limited(&marked[..2]), None);
+    }
+
+    #[test]
+    fn a_command_is_refused_by_2_then_5_whether_limited_or_not() {
+        for limited in [false, true] {
+            let mut short = [0; 23];
+            let mut write = |p| write_command(p, 1, &[0; 4], limited, &mut short);
+            assert_eq!(write(1), Err(Refusal::Areas));
+            assert_eq!(write(0), Err(Refusal::Sizes));
+            assert_eq!(write(5), Err(Refusal::Sizes));
+            assert_eq!(short, [0; 23]);
+        }
     }
 }

@@ -1,5 +1,7 @@
 //! Document 01, "Settings" (those of the law) and "The law". Its divisions
-//! round as document 02's L2, "Rounding that creeps", has them.
+//! round as document 02's L2, "Rounding that creeps", has them, and each call
+//! says what its L7, "Commands that hit the stop", asks for: "The law says with
+//! each update and each command whether clamping or limits changed any value."
 //!
 //! "The law's own calls refuse settings by 2 to 4 and refuse nothing else."
 
@@ -25,6 +27,24 @@ pub type State = [i32; MAX_STATES];
 
 /// The commands' values; places beyond p are not looked at.
 pub type Command = [i32; MAX_COMMANDS];
+
+/// What an update gives.
+#[derive(Clone, Copy, Debug, Default, PartialEq, Eq)]
+pub struct Updated {
+    /// The new state; places beyond n are 0.
+    pub state: State,
+    /// Whether clamping changed an e(j) of a present reading or an x'(i).
+    pub limited: bool,
+}
+
+/// What a command gives.
+#[derive(Clone, Copy, Debug, Default, PartialEq, Eq)]
+pub struct Commanded {
+    /// Places beyond p are 0.
+    pub values: Command,
+    /// Whether its own limits changed a value.
+    pub limited: bool,
+}
 
 /// The law's settings. "Places of a table or list beyond n, m and p are not
 /// looked at."
@@ -148,50 +168,74 @@ fn check_limits(settings: &Settings) -> Result<(), Refusal> {
 }
 
 /// "Update: x'(i) = clamp((sum of A(i,j) × x(j) + sum of L(i,j) × e(j)) /
-/// 65536), one division for both sums." Places beyond n come back 0.
-pub fn update(settings: &Settings, x: &State, readings: &Readings) -> Result<State, Refusal> {
+/// 65536), one division for both sums." Limited where an e(j) of a present
+/// reading or an x'(i) is.
+pub fn update(settings: &Settings, x: &State, readings: &Readings) -> Result<Updated, Refusal> {
     check(settings)?;
     let (n, m, _) = sizes(settings);
     let e = errors(settings, x, readings);
-    let mut next = State::default();
-    for (i, value) in next[..n].iter_mut().enumerate() {
-        let (of_x, of_e) = (dot(&settings.a[i][..n], x), dot(&settings.l[i][..m], &e));
-        let divided = |sum| divide(sum, Fault::FlooredUpdate);
-        *value = clamp(divided(of_x + of_e));
-        if planted(Fault::TwoDivisions) {
-            *value = clamp(divided(of_x) + divided(of_e));
-        }
+    let mut updated = Updated {
+        limited: e.limited,
+        ..Updated::default()
+    };
+    for (i, value) in updated.state[..n].iter_mut().enumerate() {
+        let of_x = dot(&settings.a[i][..n], x);
+        let of_e = dot(&settings.l[i][..m], &e.values);
+        let next = clamp(new_state(of_x, of_e));
+        *value = next.value;
+        updated.limited |= next.limited;
     }
-    Ok(next)
+    Ok(updated)
+}
+
+/// An x'(i) before it is clamped.
+fn new_state(of_x: i64, of_e: i64) -> i64 {
+    let divided = |sum| divide(sum, Fault::FlooredUpdate);
+    if planted(Fault::TwoDivisions) {
+        return divided(of_x) + divided(of_e);
+    }
+    divided(of_x + of_e)
+}
+
+/// The e(j) of an update, and whether clamping changed one.
+#[derive(Default)]
+struct Errors {
+    values: [i32; MAX_READINGS],
+    limited: bool,
 }
 
 /// "For a present reading j: e(j) = clamp(y(j) − (sum over i of C(j,i) ×
-/// x(i)) / 65536). For an absent one e(j) = 0."
-fn errors(settings: &Settings, x: &State, readings: &Readings) -> [i32; MAX_READINGS] {
+/// x(i)) / 65536). For an absent one e(j) = 0": no clamping changes that one.
+fn errors(settings: &Settings, x: &State, readings: &Readings) -> Errors {
     let (n, m, _) = sizes(settings);
-    let mut e = [0; MAX_READINGS];
-    for (j, error) in e[..m].iter_mut().enumerate() {
+    let mut e = Errors::default();
+    for (j, error) in e.values[..m].iter_mut().enumerate() {
+        let expected = || divide(dot(&settings.c[j][..n], x), Fault::FlooredPrediction);
         if readings.is_present(j) || planted(Fault::AbsentReading) {
-            let of_x = dot(&settings.c[j][..n], x);
-            let expected = divide(of_x, Fault::FlooredPrediction);
-            *error = clamp(i64::from(readings.values[j]) - expected);
+            let clamped = clamp(i64::from(readings.values[j]) - expected());
+            *error = clamped.value;
+            e.limited |= clamped.limited;
+        } else if planted(Fault::AbsentMarked) {
+            e.limited |= clamp(-expected()).limited;
         }
     }
     e
 }
 
 /// "Command j: (sum of K(j,i) × x(i)) / 65536, brought into its own limits."
-/// Places beyond p come back 0.
-pub fn command(settings: &Settings, x: &State) -> Result<Command, Refusal> {
+/// Limited where these change a value.
+pub fn command(settings: &Settings, x: &State) -> Result<Commanded, Refusal> {
     check(settings)?;
     let (n, _, p) = sizes(settings);
-    let mut command = Command::default();
-    for (j, value) in command[..p].iter_mut().enumerate() {
+    let mut commanded = Commanded::default();
+    for (j, value) in commanded.values[..p].iter_mut().enumerate() {
         let wanted = divide(dot(&settings.k[j][..n], x), Fault::FlooredCommand);
         let own = if planted(Fault::FirstLimits) { 0 } else { j };
-        *value = limit(wanted, settings.lower[own], settings.upper[own]);
+        let brought = limit(wanted, settings.lower[own], settings.upper[own]);
+        *value = brought.value;
+        commanded.limited |= brought.limited;
     }
-    Ok(command)
+    Ok(commanded)
 }
 
 /// n, m and p as indices; only for settings that `check` took.
@@ -251,18 +295,32 @@ fn tied(below: i64) -> i64 {
     }
 }
 
-/// "Clamp means: into the i32 range."
-fn clamp(value: i64) -> i32 {
-    if planted(Fault::NotClamped) {
-        return value as i32;
-    }
-    limit(value, i32::MIN, i32::MAX)
+/// A value brought into limits, and whether they changed it.
+struct Brought {
+    value: i32,
+    limited: bool,
 }
 
-/// Brings a value into limits of which the lower is not above the upper.
-fn limit(value: i64, lower: i32, upper: i32) -> i32 {
-    let inside = value.clamp(lower.into(), upper.into());
-    inside.try_into().expect("between two i32 limits")
+/// "Clamp means: into the i32 range."
+fn clamp(value: i64) -> Brought {
+    let clamped = limit(value, i32::MIN, i32::MAX);
+    if planted(Fault::NotClamped) {
+        let value = value as i32;
+        return Brought { value, ..clamped };
+    }
+    clamped
+}
+
+/// Brings a value into limits of which the lower is not above the upper. One
+/// that stands at a limit by itself is not changed.
+fn limit(value: i64, lower: i32, upper: i32) -> Brought {
+    let (lower, upper) = (i64::from(lower), i64::from(upper));
+    let inside = value.clamp(lower, upper);
+    let stands_at_one = value == lower || value == upper;
+    Brought {
+        value: inside.try_into().expect("between two i32 limits"),
+        limited: inside != value || stands_at_one && planted(Fault::AtLimitMarked),
+    }
 }
 
 #[cfg(test)]
@@ -278,7 +336,15 @@ mod tests {
             readings.marks = 1;
             readings.values[0] = y;
         }
-        update(&bench_settings(), &state, &readings).unwrap()[0]
+        state_of(&bench_settings(), &state, &readings)[0]
+    }
+
+    fn state_of(settings: &Settings, x: &State, readings: &Readings) -> State {
+        update(settings, x, readings).unwrap().state
+    }
+
+    fn values_of(settings: &Settings, x: &State) -> Command {
+        command(settings, x).unwrap().values
     }
 
     #[test]
@@ -356,12 +422,9 @@ mod tests {
         assert_eq!(check(&settings), Err(Refusal::Coefficient));
         settings.p = 5;
         assert_eq!(check(&settings), Err(Refusal::Sizes));
-        let refused = Err(Refusal::Sizes);
-        assert_eq!(
-            update(&settings, &[0; 6], &Readings::default()),
-            refused.map(|()| [0; 6])
-        );
-        assert_eq!(command(&settings, &[0; 6]), refused.map(|()| [0; 4]));
+        let updated = update(&settings, &[0; 6], &Readings::default());
+        assert_eq!(updated, Err(Refusal::Sizes));
+        assert_eq!(command(&settings, &[0; 6]), Err(Refusal::Sizes));
     }
 
     #[test]
@@ -467,10 +530,10 @@ mod tests {
             settings.c[0][0] = gain;
             settings.k[0][0] = gain;
             let x = [x, 0, 0, 0, 0, 0];
-            assert_eq!(errors(&settings, &x, &zero), [-quotient, 0, 0, 0]);
+            assert_eq!(errors(&settings, &x, &zero).values, [-quotient, 0, 0, 0]);
             let updated = [quotient, 0, 0, 0, 0, 0];
-            assert_eq!(update(&settings, &x, &missing), Ok(updated));
-            assert_eq!(command(&settings, &x), Ok([quotient, 0, 0, 0]));
+            assert_eq!(state_of(&settings, &x, &missing), updated);
+            assert_eq!(values_of(&settings, &x), [quotient, 0, 0, 0]);
         }
     }
 
@@ -485,7 +548,7 @@ mod tests {
         // Half of 1 goes to 0 and half of 3 to 2; 1 − 0.5 and 1 − 1.5 would
         // both go to 0.
         for (x, error) in [(1, 1), (3, -1)] {
-            assert_eq!(errors(&settings, &[x; 6], &readings)[0], error);
+            assert_eq!(errors(&settings, &[x; 6], &readings).values[0], error);
         }
     }
 
@@ -499,12 +562,10 @@ mod tests {
             values: [i32::MIN; 4],
         };
         let x = [i32::MAX; 6];
-        assert_eq!(errors(&settings, &x, &readings)[0], i32::MIN);
+        assert_eq!(errors(&settings, &x, &readings).values[0], i32::MIN);
         readings.values[0] = i32::MAX;
-        assert_eq!(
-            update(&settings, &x, &readings),
-            Ok([i32::MAX, 0, 0, 0, 0, 0])
-        );
+        let updated = [i32::MAX, 0, 0, 0, 0, 0];
+        assert_eq!(state_of(&settings, &x, &readings), updated);
     }
 
     #[test]
@@ -517,10 +578,8 @@ mod tests {
         };
         // 32768 × 1 + 32768 × (2 − 1) is one whole unit; each half of it
         // would go to 0.
-        assert_eq!(
-            update(&settings, &[1; 6], &readings),
-            Ok([1, 0, 0, 0, 0, 0])
-        );
+        let updated = [1, 0, 0, 0, 0, 0];
+        assert_eq!(state_of(&settings, &[1; 6], &readings), updated);
     }
 
     #[test]
@@ -528,11 +587,11 @@ mod tests {
         let mut settings = bench_settings();
         (settings.lower[0], settings.upper[0]) = (-3, 7);
         for (x, value) in [(-4, -3), (-3, -3), (0, 0), (7, 7), (8, 7)] {
-            assert_eq!(command(&settings, &[x; 6]), Ok([value, 0, 0, 0]));
+            assert_eq!(values_of(&settings, &[x; 6]), [value, 0, 0, 0]);
         }
         settings.k[0][0] = LARGEST_COEFFICIENT;
         (settings.lower[0], settings.upper[0]) = (i32::MIN, i32::MAX);
-        assert_eq!(command(&settings, &[i32::MAX; 6]), Ok([i32::MAX, 0, 0, 0]));
+        assert_eq!(values_of(&settings, &[i32::MAX; 6]), [i32::MAX, 0, 0, 0]);
     }
 
     #[test]
@@ -541,11 +600,286 @@ mod tests {
             marks: 0b1111_0000,
             values: [9; 4],
         };
-        assert_eq!(
-            update(&bench_settings(), &[50; 6], &given),
-            Ok([50, 0, 0, 0, 0, 0])
-        );
+        let updated = [50, 0, 0, 0, 0, 0];
+        assert_eq!(state_of(&bench_settings(), &[50; 6], &given), updated);
         assert_eq!(given.as_read(1), Readings::default());
         assert!(given.has_marks_beyond(4));
+    }
+
+    // Document 02, L7: "whether clamping or limits changed any value".
+
+    /// n, m and p 2. Every table takes each place as it is, but L is 0, so that
+    /// no e(j) changes a state.
+    fn apart() -> Settings {
+        let mut settings = bench_settings();
+        (settings.n, settings.m, settings.p) = (2, 2, 2);
+        settings.l[0][0] = 0;
+        for i in 0..2 {
+            settings.a[i][i] = 65_536;
+            settings.c[i][i] = 65_536;
+            settings.k[i][i] = 65_536;
+            (settings.lower[i], settings.upper[i]) = (i32::MIN, i32::MAX);
+        }
+        settings
+    }
+
+    /// A state with one value at a place and 0 elsewhere.
+    fn with_value(place: usize, value: i32) -> State {
+        let mut x = State::default();
+        x[place] = value;
+        x
+    }
+
+    /// A row with one reading present.
+    fn with_reading(place: usize, value: i32) -> Readings {
+        let mut readings = Readings {
+            marks: 1 << place,
+            ..Readings::default()
+        };
+        readings.values[place] = value;
+        readings
+    }
+
+    fn update_is_limited(settings: &Settings, x: &State, readings: &Readings) -> bool {
+        update(settings, x, readings).unwrap().limited
+    }
+
+    fn command_is_limited(settings: &Settings, x: &State) -> bool {
+        command(settings, x).unwrap().limited
+    }
+
+    /// An e(j) that stands at an end by itself, and one that is changed.
+    #[test]
+    fn a_clamped_error_limits_an_update() {
+        for j in 0..2 {
+            let cases = [(1, i32::MIN), (-1, i32::MAX), (1 << 30, -1 - (1 << 30))];
+            for (x, y) in cases {
+                let x = with_value(j, x);
+                let at_end = y + x[j].signum();
+                assert!(update_is_limited(&apart(), &x, &with_reading(j, y)));
+                assert!(!update_is_limited(&apart(), &x, &with_reading(j, at_end)));
+                // Neither changes the state, nor the command of it.
+                assert_eq!(state_of(&apart(), &x, &with_reading(j, y)), x);
+                assert!(!command_is_limited(&apart(), &x));
+            }
+        }
+    }
+
+    /// An x'(i) that stands at an end by itself, and one that is changed.
+    #[test]
+    fn a_clamped_state_limits_an_update() {
+        let none = Readings::default();
+        for i in 0..2 {
+            let mut settings = apart();
+            settings.a[i][i] = 2 * 65_536;
+            let cases = [
+                (1 << 30, true, i32::MAX),
+                ((1 << 30) - 1, false, i32::MAX - 1),
+                (-(1 << 30) - 1, true, i32::MIN),
+                (-(1 << 30), false, i32::MIN),
+            ];
+            for (x, limited, next) in cases {
+                let state = with_value(i, next);
+                let updated = update(&settings, &with_value(i, x), &none);
+                assert_eq!(updated, Ok(Updated { state, limited }));
+                // The command of the state is what it is.
+                assert!(!command_is_limited(&settings, &state));
+            }
+            settings = apart();
+            let at_end = with_value(i, i32::MAX);
+            assert!(!update_is_limited(&settings, &at_end, &none));
+        }
+    }
+
+    /// What is clamped is the quotient as rounded.
+    #[test]
+    fn rounding_alone_limits_nothing() {
+        let mut settings = bench_settings();
+        settings.c[0][0] = 0;
+        // x and a half goes to the even one, which may be past the end.
+        let cases = [
+            (i32::MAX, 1, true),
+            (i32::MAX - 1, 1, false),
+            (i32::MIN, -1, false),
+            (i32::MIN, -2, true),
+            (5, 1, false),
+        ];
+        for (x, y, limited) in cases {
+            let readings = with_reading(0, y);
+            let x = with_value(0, x);
+            assert_eq!(update_is_limited(&settings, &x, &readings), limited);
+        }
+        settings.k[0][0] = 32_768;
+        (settings.lower[0], settings.upper[0]) = (-2, 2);
+        for (x, limited) in [(5, false), (6, true), (-5, false), (-6, true)] {
+            let x = with_value(0, x);
+            assert_eq!(command_is_limited(&settings, &x), limited);
+        }
+    }
+
+    #[test]
+    fn a_command_is_limited_where_its_own_limits_change_it() {
+        for j in 0..2 {
+            let mut settings = apart();
+            (settings.lower[j], settings.upper[j]) = (-3, 7);
+            let cases = [(-4, true), (-3, false), (0, false), (7, false), (8, true)];
+            for (x, limited) in cases {
+                let x = with_value(j, x);
+                assert_eq!(command_is_limited(&settings, &x), limited);
+                assert!(!update_is_limited(&settings, &x, &Readings::default()));
+                // The other command has limits of its own.
+                let x = with_value(1 - j, x[j]);
+                assert!(!command_is_limited(&settings, &x));
+            }
+            // At equal limits one value alone is not changed.
+            (settings.lower[j], settings.upper[j]) = (0, 0);
+            for (x, limited) in [(-1, true), (0, false), (1, true)] {
+                let x = with_value(j, x);
+                assert_eq!(command_is_limited(&settings, &x), limited);
+            }
+        }
+        let mut settings = bench_settings();
+        for (gain, limited) in [(65_536, false), (65_537, true)] {
+            settings.k[0][0] = gain;
+            for end in [i32::MIN, i32::MAX] {
+                let x = with_value(0, end);
+                assert_eq!(command_is_limited(&settings, &x), limited);
+            }
+        }
+    }
+
+    /// "For an absent one e(j) = 0", whatever stands in its place.
+    #[test]
+    fn an_absent_reading_limits_nothing() {
+        let x = with_value(1, i32::MIN);
+        for value in [0, 1, i32::MAX] {
+            let mut readings = with_reading(1, value);
+            assert!(update_is_limited(&apart(), &x, &readings));
+            readings.marks = 0b1111_1101;
+            assert!(!update_is_limited(&apart(), &x, &readings));
+        }
+    }
+
+    #[test]
+    fn places_beyond_n_m_and_p_limit_nothing() {
+        let mut settings = apart();
+        (settings.n, settings.m, settings.p) = (1, 1, 1);
+        settings.a[1] = [i32::MAX; 6];
+        settings.c[1] = [i32::MAX; 6];
+        settings.k[1] = [i32::MAX; 6];
+        (settings.lower[1], settings.upper[1]) = (1, 0);
+        let x = [5, i32::MAX, i32::MIN, 0, 0, 0];
+        let readings = Readings {
+            marks: 0b1111,
+            values: [5, i32::MIN, i32::MIN, i32::MAX],
+        };
+        assert!(!update_is_limited(&settings, &x, &readings));
+        assert!(!command_is_limited(&settings, &x));
+    }
+
+    /// On the bench, from one state: e(1) is −2147483648 either way.
+    #[test]
+    fn two_updates_to_one_state_may_differ_in_what_they_say() {
+        let x = with_value(0, 1 << 30);
+        let [clamped, plain] = [i32::MIN, -(1 << 30)]
+            .map(|y| update(&bench_settings(), &x, &with_reading(0, y)).unwrap());
+        assert_eq!(clamped.state, plain.state);
+        assert!(clamped.limited && !plain.limited);
+    }
+
+    /// A generator by shifts.
+    struct Random(u64);
+
+    impl Random {
+        fn next(&mut self) -> i32 {
+            self.0 ^= self.0 << 13;
+            self.0 ^= self.0 >> 7;
+            self.0 ^= self.0 << 17;
+            (self.0 >> 24) as i32
+        }
+
+        /// Of any size, now and then an end.
+        fn value(&mut self) -> i32 {
+            match self.next() & 15 {
+                0 => i32::MIN,
+                1 => i32::MAX,
+                size => self.next() >> (2 * size - 2),
+            }
+        }
+
+        /// A few whole units or some fraction.
+        fn coefficient(&mut self) -> i32 {
+            match self.next() & 3 {
+                0 => (self.next() & 7) * 65_536 - 196_608,
+                _ => self.next() >> 14,
+            }
+        }
+
+        /// K is small and its limits are often the widest, so that a command may
+        /// stay as it is where a state was clamped.
+        fn settings(&mut self) -> Settings {
+            let mut settings = Settings {
+                n: 3,
+                m: 2,
+                p: 2,
+                lower: [i32::MIN; 4],
+                upper: [i32::MAX; 4],
+                ..Settings::default()
+            };
+            settings.a = settings.a.map(|row| row.map(|_| self.coefficient()));
+            settings.l = settings.l.map(|row| row.map(|_| self.coefficient()));
+            settings.c = settings.c.map(|row| row.map(|_| self.coefficient()));
+            settings.k = settings.k.map(|row| row.map(|_| self.coefficient() >> 3));
+            if self.next() & 1 == 0 {
+                let (one, other) = (self.value(), self.value());
+                settings.lower[0] = one.min(other);
+                settings.upper[0] = one.max(other);
+            }
+            settings
+        }
+    }
+
+    /// The quotients of one of the law's tables and a state, as they are before
+    /// anything is brought into limits.
+    fn quotients<const WIDTH: usize>(table: &[[i32; WIDTH]], values: &[i32]) -> Vec<i64> {
+        let sums = table.iter().map(|row| dot(&row[..values.len()], values));
+        sums.map(nearest).collect()
+    }
+
+    /// What the words mean: what was changed is not what it was.
+    #[test]
+    fn limited_is_what_its_words_mean() {
+        let mut random = Random(0x9E37_79B9_7F4A_7C15);
+        // By whether an e(j), an x'(i) and a command was changed.
+        let mut counts = [0; 8];
+        for _ in 0..100_000 {
+            let settings = random.settings();
+            let x: State = std::array::from_fn(|_| random.value());
+            let readings = Readings {
+                marks: random.next() as u8,
+                values: std::array::from_fn(|_| random.value()),
+            };
+            let e = errors(&settings, &x, &readings).values;
+            let expected = quotients(&settings.c[..2], &x[..3]);
+            let changed_error = (0..2).any(|j| {
+                let wanted = i64::from(readings.values[j]) - expected[j];
+                readings.is_present(j) && i64::from(e[j]) != wanted
+            });
+            let updated = update(&settings, &x, &readings).unwrap();
+            let changed_state = (0..3).any(|i| {
+                let sum = dot(&settings.a[i][..3], &x) + dot(&settings.l[i][..2], &e);
+                i64::from(updated.state[i]) != nearest(sum)
+            });
+            assert_eq!(updated.limited, changed_error || changed_state);
+            let command = command(&settings, &updated.state).unwrap();
+            let wanted = quotients(&settings.k[..2], &updated.state[..3]);
+            let changed_command = (0..2).any(|j| i64::from(command.values[j]) != wanted[j]);
+            assert_eq!(command.limited, changed_command);
+            let changed = [changed_error, changed_state, changed_command];
+            counts[changed
+                .iter()
+                .fold(0, |place, &bit| 2 * place + usize::from(bit))] += 1;
+        }
+        assert!(counts.iter().all(|&count| count > 300), "{counts:?}");
     }
 }

@@ -1,8 +1,8 @@
 //! A second, independent implementation of document 01, "A SCRaM replica
 //! group for a winder's tension controller", with change requests L1,
 //! "Readings as the transmitters send them", L2, "Rounding that creeps", L3,
-//! "The shift page", L4, "Coming back after a power cycle", and L6, "Ask first,
-//! store, then commit", of document 02.
+//! "The shift page", L4, "Coming back after a power cycle", L6, "Ask first,
+//! store, then commit", and L7, "Commands that hit the stop", of document 02.
 //!
 //! Comments in quotation marks are document 01's own words, or document 02's
 //! where they name it; "readings" and "changes" name the papers that settle

@@ -1,10 +1,10 @@
 //! Document 01, "What a replica holds", "Events" and "Where each refusal is
 //! made": one replica as a value that takes events. Its tick takes readings as
-//! document 02's L1 has them.
+//! document 02's L1 has them, and its commands say what L7 asks for.
 
 use crate::fault::{planted, Fault};
 use crate::frame::{self, Frame, ACK, DECIDE, ESTIMATE, PROPOSE};
-use crate::law::{self, Command, Readings, Settings, State};
+use crate::law::{self, Commanded, Readings, Settings, State, Updated};
 use crate::reading::{self, Row};
 use crate::refusal::Refusal;
 
@@ -102,7 +102,8 @@ pub struct Areas<'a> {
 #[derive(Default)]
 struct Sent {
     frame: Option<Frame>,
-    command: Option<Command>,
+    /// Limited where it or the update that it comes from is.
+    command: Option<Commanded>,
 }
 
 /// What a rule does with an event; nothing is sent for one that is ignored.
@@ -233,8 +234,9 @@ impl Replica {
         if let Some(frame) = &sent.frame {
             step.frame_length = frame::write(n, m, frame, areas.frame)?;
         }
-        if let Some(command) = &sent.command {
-            step.command_length = frame::write_command(p, self.period, command, areas.command)?;
+        if let Some(Commanded { values, limited }) = &sent.command {
+            step.command_length =
+                frame::write_command(p, self.period, values, *limited, areas.command)?;
         }
         Ok(step)
     }
@@ -249,7 +251,7 @@ impl Replica {
     fn on_tick(&mut self, readings: &Readings) -> Result<Outcome, Refusal> {
         self.check_tick(readings)?;
         if self.tick_updates() {
-            self.estimate.state = self.updated()?;
+            self.estimate.state = self.updated()?.state;
         }
         self.period += 1;
         self.estimate.readings = readings.as_read(self.settings.m);
@@ -418,17 +420,23 @@ impl Replica {
     }
 
     /// "A box that decides issues the command of Update(estimate's state,
-    /// estimate's readings)."
-    fn decide(&mut self) -> Result<Command, Refusal> {
+    /// estimate's readings)." What an earlier update or command was has no part
+    /// in it.
+    fn decide(&mut self) -> Result<Commanded, Refusal> {
         self.decided = true;
+        let mut updated = self.updated()?;
         if planted(Fault::CommandBefore) {
-            return law::command(&self.settings, &self.estimate.state);
+            updated.state = self.estimate.state;
         }
-        law::command(&self.settings, &self.updated()?)
+        let command = law::command(&self.settings, &updated.state)?;
+        Ok(Commanded {
+            limited: is_limited(&updated, &command),
+            ..command
+        })
     }
 
     /// Update of the estimate's state and readings.
-    fn updated(&self) -> Result<State, Refusal> {
+    fn updated(&self) -> Result<Updated, Refusal> {
         law::update(
             &self.settings,
             &self.estimate.state,
@@ -677,6 +685,17 @@ impl Areas<'_> {
         }
         Ok(())
     }
+}
+
+/// Document 02: "if that occurred in the update or the command it comes from".
+fn is_limited(updated: &Updated, command: &Commanded) -> bool {
+    if planted(Fault::OnlyCommandsMarked) {
+        return command.limited;
+    }
+    if planted(Fault::OnlyUpdatesMarked) {
+        return updated.limited;
+    }
+    updated.limited || command.limited
 }
 
 fn estimate_of(frame: &Frame) -> Estimate {

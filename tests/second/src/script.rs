@@ -1,9 +1,11 @@
 //! Document 01, "The bench": scripts of events for a group of boxes, read
 //! from lines and answered line by line. `rig` is the same for any group, and
 //! takes readings as document 02's L1 has them, boxes that stop and return as
-//! its L4 has them, and asks and commits as its L6 has them.
+//! its L4 has them, and asks and commits as its L6 has them. Both print the `*`
+//! of its L7.
 
 mod played;
+mod remembered;
 mod station;
 
 use std::io::{self, BufRead, Write};

@@ -4,7 +4,7 @@
 use std::io::Write;
 use std::process::{Command, Output, Stdio};
 
-use second::fault::{ROUNDING_NAMES, STORE_NAMES};
+use second::fault::{MARK_NAMES, ROUNDING_NAMES, STORE_NAMES};
 
 const BENCH: &str = env!("CARGO_BIN_EXE_bench");
 const RIG: &str = env!("CARGO_BIN_EXE_rig");
@@ -410,6 +410,126 @@ fn faults_of_returning_show() {
     }
 }
 
+/// Three periods, of which the second has an e(1) that is clamped.
+const CLAMPED: &str = "T 1 2147483640\nT 2 -\nD 2 1\nD 1 3\n\
+                       T 1 -2147483648\nT 2 -\nD 2 5\nD 1 7\n\
+                       T 1 9\nT 2 -\nD 2 9\nD 1 11\n";
+
+/// A period with limits of 40 either way that is decided, and the next one.
+fn limited_on_the_rig(first: i32, second: i32) -> String {
+    let settings = "1 1 1 65536 32768 65536 65536 -40 40 0";
+    let lines = format!(
+        "T 1 {first}\nT 2 -\nD 2 1\nD 1 3\n\
+         T 1 {second}\nT 2 -\nD 2 5\nD 1 7\n"
+    );
+    format!("rig 3 {settings}\n{lines}")
+}
+
+#[test]
+fn commands_that_hit_the_stop_have_a_star() {
+    for (program, input) in [(BENCH, CLAMPED), (RIG, &bench_on_the_rig(CLAMPED))] {
+        let rows = lines(program, "", input);
+        assert_eq!(rows[4], "4 1 ok 1 0 0 1 0 4 1073741820");
+        assert_eq!(rows[8], "8 1 ok 2 0 0 2 1073741820 8 -4*");
+        assert_eq!(rows[12], "12 1 ok 3 0 0 3 -4 12 2");
+    }
+    let rows = lines(RIG, "", &limited_on_the_rig(100, -30));
+    assert_eq!(rows[4], "4 1 ok 1 0 0 1 0 4 40*");
+    assert_eq!(rows[8], "8 1 ok 2 0 0 2 50 8 10");
+}
+
+#[test]
+fn faults_of_marks_show_on_the_bench() {
+    let unmarked = "8 1 ok 2 0 0 2 1073741820 8 -4";
+    for fault in [
+        "only_commands_marked",
+        "marks_left_zero",
+        "estimates_update_marked",
+    ] {
+        assert_shows(BENCH, fault, CLAMPED, 8, unmarked);
+    }
+    let row = "12 1 ok 3 0 0 3 -4 12 2*";
+    assert_shows(BENCH, "last_mark_kept", CLAMPED, 12, row);
+    // An e(1) at the end of i32.
+    let input = "T 1 2147483647\nT 2 -\nD 2 1\nD 1 3\n";
+    let row = "4 1 ok 1 0 0 1 0 4 1073741824*";
+    assert_shows(BENCH, "at_limit_marked", input, 4, row);
+    // There no command is beyond its limits, so this one shows nowhere.
+    assert_eq!(
+        lines(BENCH, "only_updates_marked", CLAMPED),
+        lines(BENCH, "", CLAMPED)
+    );
+}
+
+/// The state comes down to the least, half of the way in each period; then an
+/// absent reading's e(1) would be clamped.
+#[test]
+fn absent_marked_shows_on_the_bench() {
+    let falling = "T 1 -2147483648\n".repeat(33);
+    let caught_up = "T 2 -\n".repeat(34);
+    let input = format!("{falling}T 1 -\n{caught_up}D 2 34\nD 1 69\n");
+    let right = "70 1 ok 34 0 0 34 -2147483648 70 -2147483648";
+    assert_eq!(lines(BENCH, "", &input)[70], right);
+    assert_shows(BENCH, "absent_marked", &input, 70, &format!("{right}*"));
+}
+
+/// The first line that shows each fault of marks on the rig, and its row.
+#[test]
+fn faults_of_marks_show_on_the_rig() {
+    let marked = limited_on_the_rig(100, -30);
+    let at_limit = limited_on_the_rig(80, -30);
+    let clamped = bench_on_the_rig(CLAMPED);
+    // Twice the state is predicted.
+    let absent = decided_on_the_rig("65536 32768 131072 65536", -1_073_741_824, 0);
+    let absent = absent.replace("T 1 0", "T 1 -");
+    let unmarked = "8 1 ok 2 0 0 2 1073741820 8 -4";
+    let cases = [
+        ("only_commands_marked", &clamped, 8, unmarked),
+        ("only_updates_marked", &marked, 4, "4 1 ok 1 0 0 1 0 4 40"),
+        (
+            "absent_marked",
+            &absent,
+            4,
+            "4 1 ok 1 0 0 1 -1073741824 4 -1073741824*",
+        ),
+        ("last_mark_kept", &marked, 8, "8 1 ok 2 0 0 2 50 8 10*"),
+        ("marks_left_zero", &marked, 4, "4 1 ok 1 0 0 1 0 4 40"),
+        ("estimates_update_marked", &clamped, 8, unmarked),
+        ("at_limit_marked", &at_limit, 4, "4 1 ok 1 0 0 1 0 4 40*"),
+    ];
+    assert_eq!(cases.map(|case| case.0), MARK_NAMES.map(|(name, _)| name));
+    for (fault, input, line, row) in cases {
+        assert_shows(RIG, fault, input, line, row);
+    }
+}
+
+/// The last line of this script on the rig with limits of 40 either way.
+#[cfg(feature = "faults")]
+fn last_with_mark_kept(script: &str) -> String {
+    let settings = "1 1 1 65536 32768 65536 65536 -40 40 0";
+    let input = format!("rig 3 {settings}\n{script}");
+    lines(RIG, "last_mark_kept", &input).pop().unwrap()
+}
+
+/// A mark is kept of what was issued, so not of an ask, and by the box that
+/// stayed up.
+#[cfg(feature = "faults")]
+#[test]
+fn a_mark_is_kept_by_the_box_that_issued_it() {
+    let asked = "T 1 100\nT 2 -\nD 2 1\nAD 1 3\n";
+    let uncommitted = format!("{asked}G 1\nT 1 -30\nT 2 -\nD 2 6\nD 1 8\n");
+    let row = "9 1 ok 2 0 0 2 50 9 10";
+    assert_eq!(last_with_mark_kept(&uncommitted), row);
+    let committed = format!("{asked}C 1 1\nT 1 -30\nT 2 -\nD 2 6\nD 1 8\n");
+    assert_eq!(last_with_mark_kept(&committed), format!("{row}*"));
+    let returned = format!("{asked}C 1 1\nT 1 -30\nT 2 -\nD 2 6\nS 1\nR 1 0\nD 1 8\n");
+    let row = "11 1 ok 2 0 0 2 50 11 10";
+    assert_eq!(last_with_mark_kept(&returned), row);
+    // Box 2 has issued none before.
+    let other = format!("{asked}C 1 1\nT 1 -30\nT 2 -\nD 2 6\nD 1 8\nD 2 9\n");
+    assert_eq!(last_with_mark_kept(&other), "10 2 ok 2 0 0 2 50 - 10");
+}
+
 /// What the program prints and, where lines are passed over, says of them.
 fn assert_pages(text: &[u8], pages: &[&str], said: &str) {
     let output = run(PAGE, "", text);
@@ -428,6 +548,17 @@ fn page_prints_the_page_of_the_example() {
     assert_pages(&text, &page, "");
     let longer = [&text[..], b"\n7 bad\n8 worse\nr13\n"].concat();
     assert_pages(&longer, &page, "page: lines passed over: 3\n");
+}
+
+#[test]
+fn page_passes_over_the_star() {
+    let text = run(BENCH, "", CLAMPED.as_bytes()).stdout;
+    let page = [
+        "         1          0   1073741820                                      \n",
+        "         2          0           -4                                      \n",
+        "         3          0            2                                      \n",
+    ];
+    assert_pages(&text, &page, "");
 }
 
 #[test]

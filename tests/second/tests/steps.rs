@@ -664,8 +664,23 @@ fn assert_sent(taken: &Taken) {
     let (command, after_command) = taken.command.split_at(taken.step.command_length);
     assert!(frame.is_empty() || frame::read(n, m, frame).is_ok());
     assert_eq!(command.is_empty(), !taken.replica.decided);
+    assert!(command.is_empty() || *command == command_of(&taken.replica));
     let mut after = after_frame.iter().chain(after_command);
     assert!(after.all(|&byte| byte == FILL));
+}
+
+/// The bytes of the command that a decision on the estimate issues.
+fn command_of(replica: &Replica) -> Vec<u8> {
+    let Replica {
+        settings, estimate, ..
+    } = replica;
+    let updated = law::update(settings, &estimate.state, &estimate.readings).unwrap();
+    let command = law::command(settings, &updated.state).unwrap();
+    let mark = u8::from(updated.limited || command.limited);
+    let values = &command.values[..settings.p.into()];
+    let values: Vec<[u8; 4]> = values.iter().map(|value| value.to_le_bytes()).collect();
+    let head = [5, settings.p, mark, 0];
+    [&head, &replica.period.to_le_bytes(), values.as_flattened()].concat()
 }
 
 // The planted faults.

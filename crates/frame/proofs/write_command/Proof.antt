@@ -23,7 +23,7 @@ unfolding commandsOk
 returns c =
     let a = c .before .before .before .args in
     let e = command-sizes (a .p) (a .area .now) (rw (lt-leb 1 (a .p) (c .before .if1 .taken))) in
-    let w = no-command (a .p) (a .area .now) (a .period) (a .values) 1 e in
+    let w = no-command (a .p) (a .area .now) (a .period) (a .values) (a .limited) 1 e in
     (ap number (c .refused-write .ensures .0) ∙ sym e, (c .refused-write .ensures .1 ∙ rw w, rw w))
 
 refused-write-requires-2 : tie.Need-refused-write-requires-2
@@ -34,7 +34,7 @@ unfolding commandsOk
 returns-2 c =
     let a = c .before .before .before .before .args in
     let e = command-sizes (a .p) (a .area .now) (rw (le-leb 1 (a .p) (c .before .before .if1 .left), lt-leb (a .p) 4 (c .before .if2 .taken))) in
-    let w = no-command (a .p) (a .area .now) (a .period) (a .values) 1 e in
+    let w = no-command (a .p) (a .area .now) (a .period) (a .values) (a .limited) 1 e in
     (ap number (c .refused-write2 .ensures .0) ∙ sym e, (c .refused-write2 .ensures .1 ∙ rw w, rw w))
 
 refused-write-requires-3 : tie.Need-refused-write-requires-3
@@ -44,7 +44,7 @@ returns-3 : tie.Need-returns-3
 returns-3 c =
     let a = c .before .before .before .before .before .args in
     let e = command-area (a .p) (a .area .now) (in-range (c .before .before)) (c .before .if3 .taken) in
-    let w = no-command (a .p) (a .area .now) (a .period) (a .values) 4 e in
+    let w = no-command (a .p) (a .area .now) (a .period) (a .values) (a .limited) 4 e in
     (ap number (c .refused-write3 .ensures .0) ∙ sym e, (c .refused-write3 .ensures .1 ∙ rw w, rw w))
 
 put-command-requires : tie.Need-put-command-requires
@@ -57,7 +57,7 @@ returns-4 : tie.Need-returns-4
 returns-4 c =
     let a = c .before .before .before .before .before .before .before .before .args in
     let e = command-done (a .p) (a .area .now) (in-range (c .before .before .before .before .before)) (c .before .before .before .before .if3 .left) in
-    let w = command-written (a .p) (a .area .now) (a .period) (a .values) e in
+    let w = command-written (a .p) (a .area .now) (a .period) (a .values) (a .limited) e in
     let p = c .before .before .put-command .ensures in
     (sym e, (p .0 ∙ rw w, p .1 ∙ put-front _ _ ∙ rw w))
 

@@ -3,15 +3,18 @@
 //! its own, so that each of the host's conditions can be broken alone.
 
 mod asks;
+#[cfg(test)]
+mod marks;
 
 use std::collections::BTreeMap;
 
-use second::frame::{command_values, COMMAND_AREA, FRAME_AREA};
+use second::frame::{COMMAND_AREA, FRAME_AREA};
 use second::law::MAX_READINGS;
 use second::reading::{convert_row, Reading, Row};
 use second::record::{self, LENGTH};
 use second::replica::{Answer, Areas, Replica};
 
+use crate::command::Command;
 use crate::demand3::Seen;
 use crate::group::Group;
 use crate::past::Past;
@@ -76,7 +79,7 @@ pub struct Made {
     pub replica: Replica,
     past: Past,
     pub frame: Vec<u8>,
-    command: Option<Vec<i32>>,
+    command: Option<Command>,
     pub is_stored: bool,
     /// Whether it was asked for, and has not been committed.
     is_asked: bool,
@@ -209,7 +212,7 @@ impl History {
             frame: frame[..step.frame_length].to_vec(),
             command: match step.command_length {
                 0 => None,
-                length => Some(command_values(&command[..length])),
+                length => Some(Command::written(&command[..length]).expect("a mark")),
             },
             ..Made::silent(place, replica, station.past.clone())
         };
@@ -460,6 +463,10 @@ mod tests {
         assert_eq!(self::played(&[(0, Store(1)), (0, refused)]).1, 1);
     }
 
+    fn thirty() -> Command {
+        Command::printed("30").unwrap()
+    }
+
     /// The decision of period 1 counts once it is stored; the row that a
     /// return undid does not.
     #[test]
@@ -479,9 +486,9 @@ mod tests {
         let (history, _) = played(&entries);
         assert_eq!(history.violation(), None);
         let (mut history, _) = played(&entries);
-        assert!(history.seen.take_command(1, vec![30]).is_err());
+        assert!(history.seen.take_command(1, thirty()).is_err());
         let (mut history, _) = played(&entries[..9]);
-        assert!(history.seen.take_command(1, vec![30]).is_ok());
+        assert!(history.seen.take_command(1, thirty()).is_ok());
         let what = history.violation().unwrap();
         assert_eq!(what, "period 1: no choice of rows gives it");
     }

@@ -4,6 +4,7 @@ use second::record::LENGTH;
 use second::replica::{Answer, Areas, Replica, Step};
 
 use super::Writer;
+use crate::decision::Decision;
 use crate::prng::Prng;
 use crate::station::{Ask, MOST_MISSED};
 
@@ -57,13 +58,16 @@ impl Writer<'_> {
         let was_asked = self.stations[place].is_asked();
         let areas = Areas {
             frame: &mut *frame,
-            command,
+            command: &mut *command,
         };
         let (held, asked) = self.take_held(place).ask(&mut record, areas, event);
         self.put_back(place, held);
         self.lines.push(format!("A{text}").into_bytes());
         self.unsent.push(self.lines.len());
         self.counts.asks.count_ask(asked.step.answer, was_asked);
+        let decided = Decision::of(&asked.left, &command[..asked.step.command_length]);
+        let is_marked = decided.is_some_and(|decision| decision.is_marked);
+        self.counts.marks.asked += usize::from(is_marked);
         self.drop_behind(place);
         self.stations[place].just_returned = false;
         self.stations[place].asks.push(Ask {
@@ -72,7 +76,7 @@ impl Writer<'_> {
             record,
             period: asked.left.period,
             frame: frame[..asked.step.frame_length].to_vec(),
-            has_command: asked.step.command_length > 0,
+            decided,
             is_stored: false,
             is_committed: false,
             is_present: false,

@@ -112,14 +112,15 @@ impl Writer<'_> {
         self.counts.asks.committed_late += usize::from(line > ask.line + 2);
         self.counts.asks.committed_after_refused += usize::from(ask.refused_since > 0);
         self.counts.asks.committed_after_return += usize::from(ask.returns_refused > 0);
-        let (is_stored, has_command) = (ask.is_stored, ask.has_command);
+        let (is_stored, decided) = (ask.is_stored, ask.decided);
         let bytes = ask.frame.clone();
         let waiting = Waiting {
             frame: self.made_frame(&bytes),
-            decided: has_command.then_some(self.replicas[place].period),
+            decided,
         };
-        if has_command {
-            self.count_decision(place);
+        if let Some(decision) = decided {
+            self.count_decision(place, &decision);
+            self.counts.marks.committed += usize::from(decision.is_marked);
         }
         let station = &mut self.stations[place];
         if is_stored {

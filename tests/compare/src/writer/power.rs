@@ -114,6 +114,7 @@ impl Writer<'_> {
                 let former = std::mem::take(&mut self.stations[place].asks);
                 self.stations[place].unstored = 0;
                 self.stations[place].just_returned = true;
+                self.stations[place].was_marked = false;
                 self.commit_former(place, &former);
             }
             Err(refusal) => {

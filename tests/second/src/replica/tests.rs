@@ -509,14 +509,15 @@ impl Random {
         (self.0 >> 20) as usize % bound
     }
 
-    /// Of any kind: counts and singles of the same size, now and then missing
-    /// or a single that counts as missing.
+    /// Of any kind: counts and singles of the same size, now and then missing,
+    /// a single that counts as missing, or so far out that an e(j) is clamped.
     fn reading(&mut self) -> Reading {
         let count = self.below(1000) as i32 - 500;
         match self.below(10) {
             0 => Reading::Missing,
             1 => Reading::Newtons([f32::NAN, f32::INFINITY, -40_000.0][self.below(3)]),
-            2..=5 => Reading::Newtons((count as f32 + 0.5) / 65_536.0),
+            2 => Reading::Count([i32::MIN, i32::MAX][self.below(2)]),
+            3..=5 => Reading::Newtons((count as f32 + 0.5) / 65_536.0),
             _ => Reading::Count(count),
         }
     }
@@ -545,7 +546,8 @@ fn deliver(replicas: &[Replica], sent: &[Vec<u8>], random: &mut Random) -> (usiz
     }
 }
 
-/// One history of demand 3: its rows and its decided states, by period.
+/// One history of demand 3: its rows and its decided states, by period, each
+/// with its command.
 #[derive(Default)]
 struct History {
     rows: Vec<Vec<Readings>>,
@@ -599,37 +601,49 @@ impl History {
         let period = taken.replica.period as usize;
         self.decided
             .resize_with(self.decided.len().max(period + 1), Vec::new);
-        let state = taken.replica.updated().unwrap();
+        let state = taken.replica.updated().unwrap().state;
         self.decided[period].push((state, taken.command.clone()));
     }
 
     /// Every state that the single controller can hold, step by step; a
-    /// decided period leaves it the decided state alone.
-    fn check(&self, settings: &Settings) -> usize {
+    /// decided period leaves it the decided state alone. With each state stands
+    /// whether its update was limited, since a state alone gives no byte 2.
+    fn check(&self, settings: &Settings) {
         let mut start = State::default();
         start[0] = settings.start[0];
-        let mut states = vec![start];
+        let mut states = vec![(start, false)];
         for period in 1..self.decided.len() {
             let rows = &self.rows[period];
+            let updated = |x: &State, row| law::update(settings, x, row).unwrap();
             states = states
                 .iter()
-                .flat_map(|x| {
-                    rows.iter()
-                        .map(|row| law::update(settings, x, row).unwrap())
-                })
+                .flat_map(|(x, _)| rows.iter().map(|row| updated(x, row)))
+                .map(|updated| (updated.state, updated.limited))
                 .collect();
             states.sort_unstable();
             states.dedup();
             for (state, command) in &self.decided[period] {
-                states.retain(|reached| reached == state);
+                states.retain(|(reached, limited)| {
+                    reached == state
+                        && *command == command_k(settings, period as u32, reached, *limited)
+                });
                 assert!(!states.is_empty(), "no controller decides period {period}");
-                let value = law::command(settings, state).unwrap()[0].to_le_bytes();
-                let head = [5, 1, 0, 0, period as u8, 0, 0, 0];
-                assert_eq!(*command, [head.as_slice(), value.as_slice()].concat());
             }
         }
-        self.decided.iter().map(Vec::len).sum()
     }
+
+    fn commands(&self) -> impl Iterator<Item = &Vec<u8>> {
+        self.decided.iter().flatten().map(|(_, command)| command)
+    }
+}
+
+/// The bytes of command k: of the state after step k, and of whether its update
+/// was limited.
+fn command_k(settings: &Settings, k: u32, x: &State, limited: bool) -> Vec<u8> {
+    let command = law::command(settings, x).unwrap();
+    let mark = u8::from(limited || command.limited);
+    let fields = [k.to_le_bytes(), command.values[0].to_le_bytes()];
+    [&[5, 1, mark, 0], fields.as_flattened()].concat()
 }
 
 #[test]
@@ -638,11 +652,21 @@ fn random_histories_satisfy_demand_3() {
     let mut settings = bench_settings();
     settings.a[0][0] = 60_000;
     settings.start[0] = 700;
-    let mut decisions = 0;
+    // Commands by byte 2, with limits that change many of them and with the
+    // widest.
+    let mut decisions = [[0; 2]; 2];
     for round in 0..3000 {
         let boxes = 3 + (round % 3) as u8;
+        let widest = round % 2;
+        let limits = [(-200, 300), (i32::MIN, i32::MAX)];
+        (settings.lower[0], settings.upper[0]) = limits[widest];
         let history = History::random(boxes, settings, &mut random);
-        decisions += history.check(&settings);
+        history.check(&settings);
+        for command in history.commands() {
+            decisions[widest][usize::from(command[2])] += 1;
+        }
     }
-    assert!(decisions > 3000, "only {decisions} decisions");
+    let decisions = decisions.as_flattened();
+    assert!(decisions.iter().sum::<usize>() > 3000, "{decisions:?}");
+    assert!(decisions.iter().all(|&count| count > 30), "{decisions:?}");
 }

@@ -1,6 +1,6 @@
 //! What a line came to, and how it is printed.
 
-use crate::frame::command_values;
+use crate::frame::{command_limited, command_values};
 use crate::replica::{Answer, Replica};
 
 pub struct Played {
@@ -65,8 +65,17 @@ impl Played {
     fn command_field(&self) -> String {
         match &self.command[..] {
             [] => "-".to_string(),
-            bytes => commas(&command_values(bytes)),
+            bytes => format!("{}{}", commas(&command_values(bytes)), star(bytes)),
         }
+    }
+}
+
+/// Document 02: "The bench prints `*` directly behind such a command." Changes:
+/// "once, behind its last value".
+fn star(command: &[u8]) -> &'static str {
+    match command_limited(command) {
+        Some(true) => "*",
+        _ => "",
     }
 }
 

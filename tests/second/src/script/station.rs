@@ -2,6 +2,7 @@
 //! and what the latest ask gave.
 
 use super::played::Played;
+use super::remembered::Remembered;
 use crate::fault::{planted, Fault};
 use crate::frame::{COMMAND_AREA, FRAME_AREA};
 use crate::reading::Row;
@@ -51,6 +52,8 @@ pub struct Station {
     /// The latest ask since the box was made or returned, as the last one;
     /// those before it only where a fault is planted that commits them.
     asks: Vec<Ask>,
+    /// Of the steps made since then, for planted faults alone.
+    remembered: Remembered,
 }
 
 /// What an ask gave, for the lines that name it later.
@@ -61,6 +64,8 @@ struct Ask {
     record: Vec<u8>,
     frame: Vec<u8>,
     command: Vec<u8>,
+    /// What is remembered where it is committed.
+    remembered: Remembered,
 }
 
 /// The areas that a script lends.
@@ -75,6 +80,7 @@ impl Station {
             held: Ticketed::new(replica),
             stored: None,
             asks: Vec::new(),
+            remembered: Remembered::default(),
         }
     }
 
@@ -104,13 +110,16 @@ impl Station {
     fn step(&mut self, event: &Event) -> Played {
         let mut lent = Lent::new();
         let happen = |replica: Replica, areas: Areas| event.happen(replica, areas);
+        let before = self.held.replica;
         let (held, step) = self.held.clone().step(lent.areas(), happen);
         self.held = held;
+        let command = &mut lent.command[..step.command_length];
+        self.remembered = self.remembered.after(&before, &self.held.replica, command);
         Played {
             answer: step.answer,
             replica: self.held.replica,
             frame: lent.frame[..step.frame_length].to_vec(),
-            command: lent.command[..step.command_length].to_vec(),
+            command: command.to_vec(),
             ticket: None,
         }
     }
@@ -121,13 +130,16 @@ impl Station {
         let mut lent = Lent::new();
         let mut record = vec![0; record::LENGTH];
         let happen = |replica: Replica, areas: Areas| event.happen(replica, areas);
+        let before = self.held.replica;
         let (held, asked) = self.held.clone().ask(&mut record, lent.areas(), happen);
         self.held = held;
+        let command = &mut lent.command[..asked.step.command_length];
+        let remembered = self.remembered.after(&before, &asked.left, command);
         let played = Played {
             answer: asked.step.answer,
             replica: asked.left,
             frame: lent.frame[..asked.step.frame_length].to_vec(),
-            command: lent.command[..asked.step.command_length].to_vec(),
+            command: command.to_vec(),
             ticket: Some(asked.ticket),
         };
         self.keep(Ask {
@@ -136,6 +148,7 @@ impl Station {
             record,
             frame: played.frame.clone(),
             command: played.command.clone(),
+            remembered,
         });
         played
     }
@@ -157,6 +170,7 @@ impl Station {
         if let (Ok(()), Some(ask)) = (done, self.ask_of(ticket)) {
             played.frame = ask.frame.clone();
             played.command = ask.command.clone();
+            self.remembered = ask.remembered;
         }
         played
     }
@@ -191,6 +205,7 @@ impl Station {
         if let Ok(replica) = returned {
             self.held = self.held.clone().returned_as(replica);
             self.asks.clear();
+            self.remembered = Remembered::default();
         }
         self.quiet(returned.map(|_| ()))
     }

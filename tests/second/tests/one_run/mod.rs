@@ -4,8 +4,8 @@
 
 use std::collections::{BTreeMap, BTreeSet};
 
-use second::frame::{COMMAND_AREA, FRAME_AREA};
-use second::law::{self, Readings, Settings, State};
+use second::frame::{self, COMMAND_AREA, FRAME_AREA};
+use second::law::{self, Readings, Settings, State, Updated};
 use second::reading::{Reading, Row};
 use second::record::{self, LENGTH};
 use second::replica::{Answer, Areas, Replica, Step};
@@ -14,10 +14,13 @@ use second::script::bench_settings;
 use crate::random::Random;
 
 impl Random {
+    /// Now and then so far out that an e(j) is clamped.
     pub fn row(&mut self) -> Row {
         let mut row = [Reading::Missing; 4];
-        if self.below(6) > 0 {
-            row[0] = Reading::Count(self.below(1000) as i32 - 500);
+        match self.below(12) {
+            0 | 1 => {}
+            2 => row[0] = Reading::Count([i32::MIN, i32::MAX][self.below(2)]),
+            _ => row[0] = Reading::Count(self.below(1000) as i32 - 500),
         }
         row
     }
@@ -108,7 +111,8 @@ impl Left {
 
     /// Whether one run of the single controller gives all commands that left:
     /// all the states that it can hold, step by step, of which a decided
-    /// period leaves those with its command.
+    /// period leaves those with its command. Byte 2 is one of the update that
+    /// gave the state: so one state may stay by one row and not by another.
     fn is_one_run(&self, settings: &Settings, boxes: &[Vec<Readings>]) -> bool {
         let mut start = State::default();
         start[0] = settings.start[0];
@@ -116,14 +120,23 @@ impl Left {
         let last = self.commands.keys().last().copied().unwrap_or(0);
         for period in 1..=last {
             let rows = rows_of(period, boxes);
-            let updated = |x: &State, row| law::update(settings, x, row).unwrap();
-            let of_rows = |x: &State| rows.iter().map(|row| updated(x, row)).collect();
-            states = states.iter().flat_map::<Vec<State>, _>(of_rows).collect();
-            for command in self.commands.get(&period).into_iter().flatten() {
-                states.retain(|x| command_of(settings, x) == command[8..]);
-            }
+            let steps = states
+                .iter()
+                .flat_map(|x| rows.iter().map(move |row| (x, row)));
+            let commands = self.commands.get(&period).map_or(&[][..], Vec::as_slice);
+            let next = steps.filter_map(|(x, row)| {
+                let updated = law::update(settings, x, row).unwrap();
+                let own = command_k(settings, period, &updated);
+                let fits = commands.iter().all(|command| *command == own);
+                fits.then_some(updated.state)
+            });
+            states = next.collect();
         }
         !states.is_empty()
+    }
+
+    fn commands(&self) -> impl Iterator<Item = &Vec<u8>> {
+        self.commands.values().flatten()
     }
 }
 
@@ -134,13 +147,19 @@ fn rows_of(period: u32, boxes: &[Vec<Readings>]) -> Vec<Readings> {
     boxes.iter().filter_map(row).collect()
 }
 
-fn command_of(settings: &Settings, x: &State) -> [u8; 4] {
-    law::command(settings, x).unwrap()[0].to_le_bytes()
+/// The bytes of command k, of step k's update.
+fn command_k(settings: &Settings, k: u32, updated: &Updated) -> Vec<u8> {
+    let command = law::command(settings, &updated.state).unwrap();
+    let limited = updated.limited || command.limited;
+    let mut area = [0; COMMAND_AREA];
+    let length = frame::write_command(1, k, &command.values, limited, &mut area).unwrap();
+    area[..length].to_vec()
 }
 
 /// How many of the histories no single controller's run gives, with how many
-/// commands left in all. A history is run with so many boxes, and gives what
-/// left them and the rows behind each.
+/// commands left in all, of which some are marked and some are not. A history
+/// is run with so many boxes, and gives what left them and the rows behind
+/// each.
 pub fn violations(
     mut run: impl FnMut(u8, Settings, &mut Random) -> (Left, Vec<Vec<Readings>>),
 ) -> (usize, usize) {
@@ -148,11 +167,17 @@ pub fn violations(
     let mut settings = bench_settings();
     settings.a[0][0] = 60_000;
     settings.start[0] = 700;
-    let (mut violations, mut commands) = (0, 0);
+    (settings.lower[0], settings.upper[0]) = (-1_000_000_000, 500);
+    let mut violations = 0;
+    // By byte 2.
+    let mut commands = [0; 2];
     for round in 0..3000 {
         let (left, rows) = run(3 + (round % 3) as u8, settings, &mut random);
         violations += usize::from(!left.is_one_run(&settings, &rows));
-        commands += left.commands.values().map(Vec::len).sum::<usize>();
+        for command in left.commands() {
+            commands[usize::from(command[2])] += 1;
+        }
     }
-    (violations, commands)
+    assert!(commands.iter().all(|&count| count > 300), "{commands:?}");
+    (violations, commands.iter().sum())
 }

@@ -19,17 +19,19 @@ fn main() {
         each: !rest.is_empty(),
     };
     match (library.as_str(), call.as_str()) {
-        ("first", "command") => run.command(|x, out| winder::command(&law.settings, x, out)),
-        ("first", _) => run.update(law.start, |x| {
-            winder::update(&law.settings, &[1; 4], &VALUES, x)
+        ("first", "command") => {
+            run.command(|x, out, limited| winder::command(&law.settings, x, out, limited));
+        }
+        ("first", _) => run.update(law.start, |x, limited| {
+            winder::update(&law.settings, &[1; 4], &VALUES, x, limited)
         }),
         (_, "command") => {
             let settings = law.second_settings();
-            run.command(|x, out| second_command(&settings, x, out));
+            run.command(|x, out, limited| second_command(&settings, x, out, limited));
         }
         _ => {
             let settings = law.second_settings();
-            run.update(law.start, |x| second_update(&settings, x));
+            run.update(law.start, |x, limited| second_update(&settings, x, limited));
         }
     }
 }
@@ -53,52 +55,65 @@ struct Run {
 
 impl Run {
     /// Each update gets the state that the one before gave.
-    fn update(&self, start: State, mut call: impl FnMut(&mut State) -> u32) {
+    fn update(&self, start: State, mut call: impl FnMut(&mut State, &mut u8) -> u32) {
         let mut state = start;
+        let mut limited = 0;
         let mut answer = 0;
         for _ in 0..self.count {
-            answer = call(black_box(&mut state));
+            answer = call(black_box(&mut state), black_box(&mut limited));
             if self.each {
-                println!("{answer} {state:?}");
+                println!("{answer} {state:?} {limited}");
             }
         }
-        println!("{answer} {state:?}");
+        println!("{answer} {state:?} {limited}");
     }
 
     /// The states of the commands differ in their first place.
-    fn command(&self, mut call: impl FnMut(&State, &mut [i32; 4]) -> u32) {
+    fn command(&self, mut call: impl FnMut(&State, &mut [i32; 4], &mut u8) -> u32) {
         let mut state = [100; 6];
         let mut commands = [0; 4];
+        let mut limited = 0;
         let mut answer = 0;
         for _ in 0..self.count {
             state[0] += 1;
-            answer = call(black_box(&state), black_box(&mut commands));
+            answer = call(
+                black_box(&state),
+                black_box(&mut commands),
+                black_box(&mut limited),
+            );
             if self.each {
-                println!("{answer} {commands:?}");
+                println!("{answer} {commands:?} {limited}");
             }
         }
-        println!("{answer} {commands:?}");
+        println!("{answer} {commands:?} {limited}");
     }
 }
 
-fn second_update(settings: &Settings, state: &mut State) -> u32 {
+fn second_update(settings: &Settings, state: &mut State, limited: &mut u8) -> u32 {
     let readings = Readings {
         marks: 15,
         values: VALUES,
     };
     match law::update(settings, state, &readings) {
-        Ok(next) => {
-            *state = next;
+        Ok(updated) => {
+            *state = updated.state;
+            *limited = updated.limited.into();
             0
         }
         Err(refusal) => refusal.number().into(),
     }
 }
 
-fn second_command(settings: &Settings, state: &State, commands: &mut [i32; 4]) -> u32 {
+fn second_command(
+    settings: &Settings,
+    state: &State,
+    commands: &mut [i32; 4],
+    limited: &mut u8,
+) -> u32 {
     match law::command(settings, state) {
-        Ok(values) => {
-            *commands = values;
+        Ok(commanded) => {
+            *commands = commanded.values;
+            *limited = commanded.limited.into();
             0
         }
         Err(refusal) => refusal.number().into(),

@@ -40,14 +40,17 @@ read-values-requires c κs =
     let s = c .before .before .before .before in
     rw (blanks s, length-replicate, to-the-end (s .args .bytes .now) commandStart, length-drop) (omega (arith, s .pre), refl)
 
+shared-slice-read-limited : tie.Need-shared-slice-read-limited
+shared-slice-read-limited c = search needs
+
 returns : tie.Need-returns
 unfolding commandIn commandPeriod
 returns c =
-    let s = c .before .before .before .before .before .before in
+    let s = c .before .before .before .before .before .before .before in
     let b = s .args .bytes .now in
     rw (
-      c .before .before .before .before .u32-at .ensures,
-      c .before .read-values .ensures,
+      c .before .before .before .before .before .u32-at .ensures,
+      c .before .before .read-values .ensures,
       to-the-end b commandStart,
       blanks s,
       length-replicate,
@@ -66,4 +69,5 @@ command-in-spec =
     array-borrow-prefix-values
     slice-aggregate-read-values
     read-values-requires
+    shared-slice-read-limited
     returns)

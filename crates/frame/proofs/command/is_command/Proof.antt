@@ -1,9 +1,11 @@
 -- `frame::command::is_command` meets its contract: each test of the code is a test of the definition, in their order. Assumes nothing.
 use mathlib.Core.Path.{_≡_, refl, sym, _∙_}
+use Prim.Native.Nat.{_≤_, _<_}
+use native.Mathlib.Omega.{arith}
 use borrow.Author.Needs.{needs}
-use borrow.Author.Tests.{eq-eqb, ne-eqb}
+use borrow.Author.Tests.{eq-eqb, ne-eqb, le-leb, lt-leb}
 use lib.Dec.{eqb}
-use lib.ListN.{length}
+use lib.ListN.{length, getD}
 use mathlib.Core.Bool.{true}
 use Rattle.frame.specs.Lengths.{commandLength}
 use Rattle.frame.specs.CommandReading.{isCommand}
@@ -44,6 +46,13 @@ returns-3 : tie.Need-returns-3
 unfolding isCommand
 returns-3 c = rw (sized (c .before .before .before .before .before .before), eq-eqb _ _ (c .before .if2 .left), ne-eqb _ _ (c .if3 .taken))
 
+-- byte 2 is above 1 where the fourth test holds, and else it is not
+above-one : (c : tie.Then4) → 1 < getD (c .before .before .before .before .before .before .before .before .before .before .args .bytes .now) 2 0
+above-one c = omega (arith, c .if4 .taken)
+
+zero-or-one : (c : tie.Else4) → getD (c .before .before .before .before .before .before .before .before .before .before .args .bytes .now) 2 0 ≤ 1
+zero-or-one c = omega (arith, c .if4 .left)
+
 returns-4 : tie.Need-returns-4
 unfolding isCommand
 returns-4 c =
@@ -51,7 +60,7 @@ returns-4 c =
       sized (c .before .before .before .before .before .before .before),
       eq-eqb _ _ (c .before .before .if2 .left),
       eq-eqb _ _ (c .before .if3 .left),
-      ne-eqb _ _ (c .if4 .taken),
+      lt-leb _ _ (above-one c),
     )
 
 returns-5 : tie.Need-returns-5
@@ -61,7 +70,7 @@ returns-5 c =
       sized (c .before .before .before .before .before .before .before),
       eq-eqb _ _ (c .before .before .if2 .left),
       eq-eqb _ _ (c .before .if3 .left),
-      eq-eqb _ _ (c .if4 .left),
+      le-leb _ _ (zero-or-one c),
     ) refl
 
 pub is-command-spec : {M : Type 1} → statement M

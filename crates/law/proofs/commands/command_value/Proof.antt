@@ -6,8 +6,8 @@ use mir.Val.{SFits}
 use mir.Facts.{toZ-ofZ}
 use borrow.Author.Needs.{needs}
 use Rattle.lists.specs.Places.{entry}
-use Rattle.law.specs.Fixed.{divided, limited}
-use Rattle.law.specs.Law.{command}
+use Rattle.law.specs.Fixed.{divided, limited, limitsChange}
+use Rattle.law.specs.Law.{command, commandChanged}
 use Rattle.law.proofs.commands.command_value.Statement.{statement}
 use Rattle.law.proofs.commands.command_value.Tie as tie
 
@@ -36,7 +36,7 @@ limit-requires : tie.Need-limit-requires
 limit-requires c κs = search needs
 
 returns : tie.Need-returns
-unfolding command
+unfolding command commandChanged
 returns c =
     let d = c .before .before .before in
     let s = d .before .before in
@@ -46,9 +46,9 @@ returns c =
     let high-fits : SFits w32 high = record { sfits = c .before .limit-arg2 .given } in
     let sum-fits : SFits w64 (d .before .sum-of-products .result) = record { sfits = d .before .sum-of-products .ok } in
     let quotient-fits : SFits w64 (d .divide .result) = record { sfits = d .divide .ok } in
-    toZ-ofZ (record { sfits = c .limit .ok })
-    ∙ (simp (toZ-ofZ, low-fits, high-fits, quotient-fits) at (c .limit .ensures))
-    ∙ ap (λ (z : ℤ). limited low high z) ((simp (toZ-ofZ, sum-fits) at (d .divide .ensures)) ∙ ap divided (d .before .sum-of-products .ensures .0))
+    let given = simp (toZ-ofZ, low-fits, high-fits, quotient-fits) at (c .limit .ensures) in
+    let quotient = (simp (toZ-ofZ, sum-fits) at (d .divide .ensures)) ∙ ap divided (d .before .sum-of-products .ensures .0) in
+    (given .0 ∙ ap (λ (z : ℤ). limited low high z) quotient, given .1 ∙ ap (λ (z : ℤ). limitsChange low high z) quotient)
 
 pub command-value-spec : {M : Type 1} → statement M
 command-value-spec =

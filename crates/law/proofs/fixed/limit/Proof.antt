@@ -6,7 +6,7 @@ use mir.Syntax.{w32}
 use mir.Val.{SFits}
 use mir.Facts.{toZ-ofZ}
 use Rattle.lists.specs.Choice.{pick}
-use Rattle.law.specs.Fixed.{limited}
+use Rattle.law.specs.Fixed.{limited, limitsChange}
 use Rattle.law.proofs.Integers.{wide, widened, between-fits}
 use Rattle.law.proofs.fixed.limit.Statement.{statement}
 use Rattle.law.proofs.fixed.limit.Tie as tie
@@ -27,25 +27,30 @@ cast-if1 : tie.Need-cast-if1
 cast-if1 c = widened (c .fits .low)
 
 returns : tie.Need-returns
-unfolding limited pick
-returns c = let f = c .before .fits in
-    simp (toZ-ofZ, f .low, simp (toZ-ofZ, f .x, f .low, wide (f .low)) at (c .if1 .taken))
+unfolding limited limitsChange pick
+returns c =
+    let f = c .before .fits in
+    let below = simp (toZ-ofZ, f .x, f .low, wide (f .low)) at (c .if1 .taken) in
+    (simp (toZ-ofZ, f .low, below), simp below)
 
 cast-if2 : tie.Need-cast-if2
 cast-if2 c = widened (c .before .fits .high)
 
 returns-2 : tie.Need-returns-2
-unfolding limited pick
-returns-2 c = let f = c .before .before .fits in
-    simp (toZ-ofZ, f .high, not-below (c .before), simp (toZ-ofZ, f .x, f .high, wide (f .high)) at (c .if2 .taken))
+unfolding limited limitsChange pick
+returns-2 c =
+    let f = c .before .before .fits in
+    let above = simp (toZ-ofZ, f .x, f .high, wide (f .high)) at (c .if2 .taken) in
+    (simp (toZ-ofZ, f .high, not-below (c .before), above), simp (not-below (c .before), above))
 
-cast-result : tie.Need-cast-result
-cast-result c = simp (toZ-ofZ, c .before .before .fits .x) (inside c)
+cast-value : tie.Need-cast-value
+cast-value c = simp (toZ-ofZ, c .before .before .fits .x) (inside c)
 
 returns-3 : tie.Need-returns-3
-unfolding limited pick
-returns-3 c = let f = c .before .before .fits in
-    simp (toZ-ofZ, f .x, inside c, not-below (c .before), not-above c)
+unfolding limited limitsChange pick
+returns-3 c =
+    let f = c .before .before .fits in
+    (simp (toZ-ofZ, f .x, inside c, not-below (c .before), not-above c), simp (not-below (c .before), not-above c))
 
 pub limit-spec : {M : Type 1} → statement M
-limit-spec = tie.close (tie.spec cast-if1 returns cast-if2 returns-2 cast-result returns-3)
+limit-spec = tie.close (tie.spec cast-if1 returns cast-if2 returns-2 cast-value returns-3)

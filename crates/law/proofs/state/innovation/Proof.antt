@@ -11,8 +11,8 @@ use borrow.Author.Tests.{not-true, not-false}
 use Rattle.lists.specs.Choice.{pick}
 use Rattle.lists.specs.Places.{entry}
 use Rattle.readings.specs.Readings.{present}
-use Rattle.law.specs.Fixed.{divided, clamp, largestProduct}
-use Rattle.law.specs.Law.{e}
+use Rattle.law.specs.Fixed.{divided, clamp, clampChanges, largestProduct}
+use Rattle.law.specs.Law.{e, eChanged}
 use Rattle.law.proofs.Integers.{wide, widened, difference-fits}
 use Rattle.law.proofs.Division.{divided-size}
 use Rattle.law.proofs.state.innovation.Statement.{statement}
@@ -45,8 +45,11 @@ array-read-if1 : tie.Need-array-read-if1
 array-read-if1 c = search needs
 
 returns : tie.Need-returns
-unfolding e pick
-returns c = let s = c .before .before in simp (not-true (present (s .args .readings) (s .args .j)) (c .if1 .taken))
+unfolding e eChanged pick
+returns c =
+    let s = c .before .before in
+    let absent = not-true (present (s .args .readings) (s .args .j)) (c .if1 .taken) in
+    (simp absent, simp absent)
 
 mul-value : tie.Need-mul-value
 mul-value c = search needs
@@ -73,14 +76,14 @@ clamp-i32-requires : tie.Need-clamp-i32-requires
 clamp-i32-requires c κs = search needs
 
 returns-2 : tie.Need-returns-2
-unfolding e pick
+unfolding e eChanged pick
 returns-2 c =
     let d = c .before in
     let s = d .before .before .before .before .before .before in
-    toZ-ofZ (record { sfits = c .clamp-i32 .ok })
-    ∙ (simp (toZ-ofZ, y-fits d, wide (y-fits d), predicted-fits d, fits d) at (c .clamp-i32 .ensures))
-    ∙ ap (λ (z : ℤ). clamp (y d -ℤ z)) (predicted d ∙ ap divided (d .before .sum-of-products .ensures .0))
-    ∙ simp (not-false (present (s .args .readings) (s .args .j)) (d .before .before .before .before .if1 .left))
+    let there = not-false (present (s .args .readings) (s .args .j)) (d .before .before .before .before .if1 .left) in
+    let given = simp (toZ-ofZ, y-fits d, wide (y-fits d), predicted-fits d, fits d) at (c .clamp-i32 .ensures) in
+    let quotient = predicted d ∙ ap divided (d .before .sum-of-products .ensures .0) in
+    (given .0 ∙ ap (λ (z : ℤ). clamp (y d -ℤ z)) quotient ∙ simp there, given .1 ∙ ap (λ (z : ℤ). clampChanges (y d -ℤ z)) quotient ∙ simp there)
 
 pub innovation-spec : {M : Type 1} → statement M
 innovation-spec =

@@ -6,8 +6,8 @@ use mir.Syntax.{w64}
 use mir.Val.{SFits}
 use mir.Facts.{toZ-ofZ}
 use borrow.Author.Needs.{needs}
-use Rattle.law.specs.Fixed.{divided, clamp}
-use Rattle.law.specs.Law.{next}
+use Rattle.law.specs.Fixed.{divided, clamp, clampChanges}
+use Rattle.law.specs.Law.{next, nextChanged}
 use Rattle.law.proofs.Integers.{small-fits, sum-size}
 use Rattle.law.proofs.state.next_value.Statement.{statement}
 use Rattle.law.proofs.state.next_value.Tie as tie
@@ -54,15 +54,14 @@ clamp-i32-requires : tie.Need-clamp-i32-requires
 clamp-i32-requires c κs = search needs
 
 returns : tie.Need-returns
-unfolding next
+unfolding next nextChanged
 returns c =
     let d = c .before .before in
     let quotient-fits : SFits w64 (c .before .divide .result) = record { sfits = c .before .divide .ok } in
-    toZ-ofZ (record { sfits = c .clamp-i32 .ok })
-    ∙ (simp (toZ-ofZ, quotient-fits) at (c .clamp-i32 .ensures))
-    ∙ ap clamp
-    ((simp (toZ-ofZ, state-fits d, readings-fits d, both-fit d) at (c .before .divide .ensures))
-    ∙ ap divided (ap₂ (λ (a b : ℤ). a +ℤ b) (d .before .sum-of-products .ensures .0) (d .sum-of-products2 .ensures .0)))
+    let given = simp (toZ-ofZ, quotient-fits) at (c .clamp-i32 .ensures) in
+    let quotient = (simp (toZ-ofZ, state-fits d, readings-fits d, both-fit d) at (c .before .divide .ensures))
+    ∙ ap divided (ap₂ (λ (a b : ℤ). a +ℤ b) (d .before .sum-of-products .ensures .0) (d .sum-of-products2 .ensures .0)) in
+    (given .0 ∙ ap clamp quotient, given .1 ∙ ap clampChanges quotient)
 
 pub next-value-spec : {M : Type 1} → statement M
 next-value-spec =

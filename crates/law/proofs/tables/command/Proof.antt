@@ -5,7 +5,7 @@ use borrow.Author.Needs.{needs}
 use Rattle.law.specs.declared.Settings.{Settings}
 use Rattle.law.specs.Settings.{settingsOf, refusal}
 use Rattle.law.proofs.Accepted.{Accepted, accepted}
-use Rattle.law.proofs.Laws.{commanded-accepted, commanded-refused}
+use Rattle.law.proofs.Laws.{commanded-accepted, commanded-refused, command-limited-accepted, command-limited-refused}
 use Rattle.law.proofs.tables.command.Statement.{statement}
 use Rattle.law.proofs.tables.command.Tie as tie
 
@@ -31,7 +31,8 @@ number-of-requires c κs = search needs
 returns : tie.Need-returns
 returns c =
     let answer = c .before .before .check .ensures in
-    (answer, commanded-refused _ _ (λ h. c .if1 .taken (c .before .number-of .ensures ∙ answer ∙ h)))
+    let refused : refusal (given (c .before .before .before)) ≡ 0 → ⊥ = λ h. c .if1 .taken (c .before .number-of .ensures ∙ answer ∙ h) in
+    (answer, (commanded-refused _ _ refused, command-limited-refused _ _ refused))
 
 command-values-requires : tie.Need-command-values-requires
 command-values-requires c κs =
@@ -40,9 +41,13 @@ command-values-requires c κs =
 
 returns-2 : tie.Need-returns-2
 returns-2 c =
-    let b = c .before .before .before .before .before in
+    let given-by = c .before in
+    let b = given-by .before .before .before .before .before in
     let s = b .before .before .before in
-    (b .before .before .check .ensures, c .command-values .ensures ∙ commanded-accepted (given s) (s .args .state .now) (passed b))
+    let e = given-by .command-values .ensures in (
+      b .before .before .check .ensures,
+      (e .0 ∙ commanded-accepted (given s) (s .args .state .now) (passed b), e .1 ∙ command-limited-accepted (given s) (s .args .state .now) (passed b)),
+    )
 
 pub command-spec : {M : Type 1} → statement M
 command-spec =

@@ -3,7 +3,7 @@ use mathlib.Core.Path.{_≡_, sym, _∙_}
 use borrow.Author.Needs.{needs}
 use Rattle.law.specs.declared.Settings.{Settings}
 use Rattle.law.specs.Settings.{settingsOf, refusal}
-use Rattle.law.proofs.Laws.{updated-refused}
+use Rattle.law.proofs.Laws.{updated-refused, update-limited-refused}
 use Rattle.law.proofs.tables.update.Statement.{statement}
 use Rattle.law.proofs.tables.update.Tie as tie
 
@@ -27,15 +27,16 @@ returns : tie.Need-returns
 returns c =
     let t = c .before in
     let answer = t .before .before .check .ensures in
-    (answer, updated-refused _ _ _ (λ h. t .if1 .taken (t .before .number-of .ensures ∙ answer ∙ h)))
+    let refused : refusal (given (t .before .before .before)) ≡ 0 → ⊥ = λ h. t .if1 .taken (t .before .number-of .ensures ∙ answer ∙ h) in
+    (answer, (updated-refused _ _ _ refused, update-limited-refused _ _ _ refused))
 
-updated-requires : tie.Need-updated-requires
-updated-requires c κs = passed c
+next-requires : tie.Need-next-requires
+next-requires c κs = passed c
 
 returns-2 : tie.Need-returns-2
-returns-2 c = (c .before .before .before .check .ensures, c .updated .ensures)
+returns-2 c = search needs
 
 pub update-spec : {M : Type 1} → statement M
 update-spec =
     tie.close
-    (tie.spec check-requires number-of-requires returns updated-requires returns-2)
+    (tie.spec check-requires number-of-requires returns next-requires returns-2)

@@ -7,6 +7,7 @@ use lib.ListN.{length}
 use Rattle.lists.specs.Choice.{pick}
 use Rattle.bytes.specs.Areas.{over}
 use Rattle.frame.specs.Command.{commandBytes}
+use Rattle.law.specs.declared.Marked.{Marked}
 use Rattle.law.specs.Settings.{settingsOf}
 use Rattle.replica.proofs.Accepted.{command-sizes}
 use Rattle.replica.proofs.Written.{command-is}
@@ -30,13 +31,14 @@ same-length c = search needs
 returns-2 : tie.Need-returns-2
 unfolding pick
 returns-2 c =
-    let s = c .before .before .before .before .before .before .before .before .before .before .before in
+    let given = c .before .before .before .before .before in
+    let s = given .before .before .before .before .before .before .before in
     let a = s .args in
     let w = c .before .before .write-command .ensures in
     let law = settingsOf (a .n) (a .m) (a .p) (a .a .now) (a .l .now) (a .c .now) (a .k .now) (a .low .now) (a .high .now) in
-    let is = command-is (a .p) (a .held .period) _ (a .area .now) (command-sizes law (s .pre .0)) (s .pre .1)
-    ∙ ap (commandBytes (a .p) (a .held .period)) (c .before .before .before .before .issued .ensures) in
-    rw (not-false (a .issues) (c .before .before .before .before .before .before .before .before .before .if1 .left)) (w .1 .0 ∙ ap length is, w .1 .1 ∙ ap (λ (b : List ℕ). over b (a .area .now)) is)
+    let is = command-is (a .p) (a .held .period) _ _ (a .area .now) (command-sizes law (s .pre .0)) (s .pre .1)
+    ∙ ap (λ (m : Marked). commandBytes (a .p) (a .held .period) (m .commands) (m .limited)) (given .issued .ensures) in
+    rw (not-false (a .issues) (given .before .before .before .before .before .if1 .left)) (w .1 .0 ∙ ap length is, w .1 .1 ∙ ap (λ (b : List ℕ). over b (a .area .now)) is)
 
 pub issue-spec : {M : Type 1} → statement M
 issue-spec =

@@ -48,22 +48,23 @@ part-put-list-end c = omega (arith, four (c .before .before .before), in-use-le 
 put-list-requires : tie.Need-put-list-requires
 put-list-requires c κs = search needs
 
+put-star-requires : tie.Need-put-star-requires
+put-star-requires c κs = search needs
+
 same-length-2 : tie.Need-same-length-2
 same-length-2 c = search needs
 
 returns-2 : tie.Need-returns-2
 unfolding commandWord pick
 returns-2 c =
-    let s = c .before .before .before .before .before .before .before .before .before .before .before .before .before .before .before .args in
-    let v = c .before .before .before .before .before .before .before .command-values in
-    let u = c .before .before .before .before .before .before .at-most .ensures in
-    rw (ne-eqb _ _ (c .before .before .before .before .before .before .before .before .if1 .left))
-    (then-puts (c .before .before .before .before .before .before .before .before .before .before .before .put-byte .ensures)
-    (puts-same
-    (ap listed
-    (in-use (v .result) 4 (s .p) _ (four (c .before .before .before .before .before .before .before)) u
-    ∙ ap (take (s .p)) (v .ensures)))
-    (c .before .before .put-list .ensures)))
+    let listing = c .before .before .before .before .before .before in
+    let given = listing .before .before .before .before .before in
+    let s = given .before .before .before .before .before .before .before .before .args in
+    let v = given .command-values in
+    let u = listing .before .before .before .before .at-most .ensures in
+    let same = ap listed (in-use (v .result) 4 (s .p) _ (four given) u ∙ ap (take (s .p)) (v .ensures)) in
+    rw (ne-eqb _ _ (given .before .if1 .left))
+    (then-puts (given .before .before .before .before .put-byte .ensures) (then-puts (puts-same same (listing .put-list .ensures)) (c .before .before .put-star .ensures)))
 
 pub put-command-spec : {M : Type 1} → statement M
 put-command-spec =
@@ -79,5 +80,6 @@ put-command-spec =
     part-put-list-start
     part-put-list-end
     put-list-requires
+    put-star-requires
     same-length-2
     returns-2)

@@ -20,9 +20,9 @@
  * other by 15.
  *
  * Results. Each call but winder_version and winder_convert_single returns 0, or the number of a refusal (enum winder_refusal); the lowest
- * number comes first, but for 15, which comes first of all where a call is lent a replica. A step of a replica may also return
- * WINDER_IGNORED, and so may an ask. Refused or ignored, every area holds what it held; but for the lengths that a step or an ask has
- * written, which are then 0, and for the tickets of an ask (see there).
+ * number comes first, but for 15, which comes first of all where a call is lent a replica, and for 18, which comes after 4. A step of a
+ * replica may also return WINDER_IGNORED, and so may an ask. Refused or ignored, every area holds what it held; but for the lengths that a
+ * step or an ask has written, which are then 0, and for the tickets of an ask (see there).
  *
  * Asked of the caller: no pointer is null, not even one with the length 0; and an area that a call writes overlaps no other area of
  * that call. Nothing else is asked: any numbers may stand in the areas. The functions keep nothing between calls, and of the C library
@@ -38,8 +38,8 @@
  * The version: major version times 100, and minor version. A further call makes a new minor version; a call that is gone or means
  * something else makes a new major one. winder_version says for which version the archive was made.
  */
-#define WINDER_VERSION 200
-#define WINDER_VERSION_TEXT "2.0"
+#define WINDER_VERSION 300
+#define WINDER_VERSION_TEXT "3.0"
 
 /* The most states, readings and commands; the least of each is 1. */
 #define WINDER_STATES_MAX 6
@@ -100,7 +100,8 @@ enum winder_refusal {
     WINDER_REFUSED_PERIODS = 14,    /* more than 60 distinct periods */
     WINDER_REFUSED_RECORD = 15,     /* no record, or no replica with tickets: docs/RECORD.md has the conditions */
     WINDER_REFUSED_MISSED = 16,     /* more than 10,000 missed periods, or a period or view that would pass its largest value */
-    WINDER_REFUSED_TICKET = 17      /* a ticket not the latest ask's, void or committed, or that ask ignored or refused */
+    WINDER_REFUSED_TICKET = 17,     /* a ticket not the latest ask's, void or committed, or that ask ignored or refused */
+    WINDER_REFUSED_QUORUMS = 18     /* a or b, the quorums, not 2 to N, or a + b not above N */
 };
 
 /* What the law is given once: sizes, tables and limits. */
@@ -317,9 +318,12 @@ uint32_t winder_write_page(
  * Makes a fresh replica of box `own` in a group of `boxes`: period and view 0, the starting state, no reading, no box heard. start is the
  * starting state; of it and of the tables the replica keeps all places as they are given.
  *
+ * to_decide is a, the boxes needed to decide; to_propose is b, the boxes heard before a new coordinator proposes: each 2 to N, with a + b
+ * above N. The coordinator is one of them both times. All boxes of a group have the same two; a majority, N / 2 + 1, will do for both.
+ *
  * Out: replica starts with its record, and bytes after it keep what they held. The steps take the record's WINDER_RECORD bytes alone.
  *
- * Refuses by 1, 2, 3 and 4, then by 5 for a replica_length under 616.
+ * Refuses by 1, 2, 3, 4 and 18, then by 5 for a replica_length under 616.
  */
 uint32_t winder_make(
     size_t n,
@@ -334,6 +338,8 @@ uint32_t winder_make(
     const int32_t start[6],
     uint8_t boxes,
     uint8_t own,
+    uint8_t to_decide,
+    uint8_t to_propose,
     uint8_t *replica,
     size_t replica_length);
 
@@ -343,6 +349,8 @@ static inline uint32_t winder_make_with(
     const int32_t start[6],
     uint8_t boxes,
     uint8_t own,
+    uint8_t to_decide,
+    uint8_t to_propose,
     uint8_t *replica,
     size_t replica_length)
 {
@@ -359,6 +367,8 @@ static inline uint32_t winder_make_with(
         start,
         boxes,
         own,
+        to_decide,
+        to_propose,
         replica,
         replica_length);
 }

@@ -9,7 +9,7 @@
 
 #include "store.h"
 
-enum { BOXES = 3, PERIODS = 8, STOP = 3, BACK = 6 };
+enum { BOXES = 3, TO_DECIDE = 2, TO_PROPOSE = 2, PERIODS = 8, STOP = 3, BACK = 6 };
 
 static const struct winder_settings bench = {
     .n = 1, .m = 1, .p = 1, .a = {65536}, .l = {32768}, .c = {65536}, .k = {65536}, .low = {INT32_MIN}, .high = {INT32_MAX}};
@@ -89,7 +89,7 @@ int main(int count, char **words)
     folder = count == 2 && !in_memory ? open(words[1], O_RDONLY) : -1;
     need(in_memory || folder >= 0, "usage: box FOLDER, or box --memory");
     for (int own = 1; own <= BOXES; own++) {
-        up[own] = winder_make_with(&bench, (const int32_t[6]){0}, BOXES, (uint8_t)own, replicas[own], WINDER_RECORD) == 0;
+        up[own] = winder_make_with(&bench, (const int32_t[6]){0}, BOXES, (uint8_t)own, TO_DECIDE, TO_PROPOSE, replicas[own], WINDER_RECORD) == 0;
         need(up[own] && store(folder, own, replicas[own]), "making was refused, or its record not stored");
     }
     for (int period = 1; period <= PERIODS; period++) {

@@ -23,7 +23,7 @@ abbrev pub allListed : List Answered → Bool
 allListed [] = true
 allListed (Done ∷ l) = allListed l
 allListed (Ignored ∷ l) = allListed l
-allListed (Refused number ∷ l) = leb 1 number && (leb number 17 && allListed l)
+allListed (Refused number ∷ l) = leb 1 number && (leb number 18 && allListed l)
 
 pub listed : (possible : List Answered) → T (allListed possible) → (a : Answered) → In a possible → Listed a
 listed [] t a i = absurd i
@@ -33,8 +33,8 @@ listed (Ignored ∷ l) t a (inl e) = subst Listed (sym e) tt
 listed (Ignored ∷ l) t a (inr i) = listed l t a i
 listed (Refused number ∷ l) t a (inl e) =
     subst Listed (sym e)
-    (leb→le 1 number (and-left (leb 1 number) _ t), leb→le number 17 (and-left (leb number 17) (allListed l) (and-right (leb 1 number) _ t)))
-listed (Refused number ∷ l) t a (inr i) = listed l (and-right (leb number 17) (allListed l) (and-right (leb 1 number) _ t)) a i
+    (leb→le 1 number (and-left (leb 1 number) _ t), leb→le number 18 (and-left (leb number 18) (allListed l) (and-right (leb 1 number) _ t)))
+listed (Refused number ∷ l) t a (inr i) = listed l (and-right (leb number 18) (allListed l) (and-right (leb 1 number) _ t)) a i
 
 -- ---- a number that a list has
 

@@ -9,9 +9,9 @@ use Rattle.scram.specs.History.{In}
 
 -- ---- the table: the numbers of each place
 
--- the place "settings": 1 is the group's, 2 to 4 are the law's
+-- the place "settings": 1 is the group's, 2 to 4 are the law's, and 18 of document 02 is for the quorum numbers
 abbrev pub settings : List ℕ
-settings = 1 ∷ 2 ∷ 3 ∷ 4 ∷ []
+settings = 1 ∷ 2 ∷ 3 ∷ 4 ∷ 18 ∷ []
 
 -- the place "lent areas"
 abbrev pub areas : List ℕ
@@ -168,11 +168,11 @@ numbered number = pick (eqb number 0) Done (Refused number)
 abbrev pub numberedStep : ℕ → Answered
 numberedStep number = pick (eqb number 256) Ignored (numbered number)
 
--- "what was called for, an event ignored, or one of the numbered refusals"; the table has the numbers 1 to 12, which document 02's 13 to 17 join
+-- "what was called for, an event ignored, or one of the numbered refusals"; the table has the numbers 1 to 12, which document 02's 13 to 18 join
 abbrev pub Listed : Answered → Type 0
 Listed Done = Unit {0}
 Listed Ignored = Unit {0}
-Listed (Refused number) = (1 ≤ number) × (number ≤ 17)
+Listed (Refused number) = (1 ≤ number) × (number ≤ 18)
 
 -- "Every call, with all inputs, answers: what was called for, an event ignored, or one of the numbered refusals. Ignored or refused, the replica and
 -- each lent area hold what they held." `possible` are the answers of this call, and `Kept` says what holds what it held

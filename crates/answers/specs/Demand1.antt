@@ -345,8 +345,8 @@ pub record DemandOne : Type 0 where
   pub winder-write-frame : (n m : ℕ) (kindAndSender counters : List ℕ) (state : List ℤ) (present : List ℕ) (values : List ℤ) (areas : WriteAreas)
       → WriteAreaAnswers n m (frameOf kindAndSender counters state present values) areas
   pub winder-write-page : (p : ℕ) (entries : List ℕ) (areas : WriteAreas) → WritePageAreaAnswers p (entriesOf entries) areas
-  pub winder-make : (n m p : ℕ) (a l c k low high start : List ℤ) (boxes own : ℕ) (replica : List ℕ)
-      → MakeAreaAnswers (replicaSettingsOf n m p a l c k low high start boxes own) replica
+  pub winder-make : (n m p : ℕ) (a l c k low high start : List ℤ) (boxes own toDecide toPropose : ℕ) (replica : List ℕ)
+      → MakeAreaAnswers (replicaSettingsOf n m p a l c k low high start boxes own toDecide toPropose) replica
   pub winder-tick : (replica kinds bits frame command : List ℕ)
       → let y = convertedRow (readingsByKind kinds bits) in
       StepAreaAnswers tickingRecord replica (stepAt replica (λ x. tickOutcome x y (length frame) (length command))) frame command

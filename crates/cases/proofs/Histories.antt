@@ -26,7 +26,8 @@ use Rattle.frame.specs.Sizes.{sizesOk}
 use Rattle.frame.specs.Format.{header, pairs, frameBytes}
 use Rattle.frame.specs.Reading.{lengthOk, partCountOk, byteThreeOk, pairsOk, headerOk, partsOk, isFrame, fieldsIn, readRefusal, readFrame}
 use Rattle.frame.specs.Command.{commandBytes, commandPeriod}
-use Rattle.scram.specs.Quorum.{majority, coordinator, beats, count}
+use Rattle.scram.specs.Quorum.{coordinator, beats, count}
+use Rattle.quorums.specs.Quorums.{badQuorums}
 use Rattle.scram.specs.Events.{badSender, badPlace, badBase, unwanted, better}
 use Rattle.scram.specs.Events.{raise, afterTick, tick, giveUp, hearAck, hearEstimate, receive, arrive, arrival}
 use Rattle.scram.specs.History.{Entry, Issued, In, step, steps, after}
@@ -37,7 +38,7 @@ use Rattle.replica.specs.Calls.{stepRefusal, checked, tickOutcome, giveUpOutcom
 use Rattle.replica.specs.declared.Replica.{Replica}
 use Rattle.group.specs.Group.{Handed, Areas, settingsOf, group}
 use Rattle.group.proofs.Theorem.{demand-3}
-use Rattle.setup.specs.Bench.{benchLaw}
+use Rattle.setup.specs.Bench.{benchLaw, bench}
 use Rattle.cases.specs.Histories.{first-i32, Line, linesFrom, linesOf, commandsOf, Witness}
 use Rattle.cases.specs.Histories.{benchEntries, benchLines, benchCommands, openEntries, openLines, openCommands}
 use Rattle.cases.specs.Histories.{decidedEntries, decidedLines, decidedCommands, singleEntries, singleLines, singleCommands}
@@ -45,8 +46,8 @@ use Rattle.cases.specs.Histories.{limitedEntries, limitedLines, limitedC
 
 -- ---- the lines and the commands, computed
 
-accepted : settingsRefusal (settingsOf 3 benchLaw 1) ≡ 0
-unfolding settingsRefusal badGroup firstOf refusals pick sizesInRange coefficientsInRange tableInRange allBelow inRange limitsInOrder
+accepted : settingsRefusal (settingsOf 3 (bench .quorums) benchLaw 1) ≡ 0
+unfolding settingsRefusal badGroup badQuorums firstOf refusals pick sizesInRange coefficientsInRange tableInRange allBelow inRange limitsInOrder
 accepted = refl
 
 -- a history gives these lines and these commands
@@ -58,8 +59,8 @@ computed : Computes benchEntries benchLines benchCommands × Computes openEntrie
     × Computes limitedEntries limitedLines limitedCommands
 unfolding linesFrom after steps step checked stepRefusal tickOutcome giveUpOutcome arriveOutcome
     raise afterTick tick giveUp hearAck hearEstimate receive arrive arrival better badSender badPlace badBase unwanted
-    majority coordinator beats count
-    settingsRefusal badGroup firstOf refusals refusal pick sizesInRange coefficientsInRange tableInRange allBelow inRange limitsInOrder
+    coordinator beats count
+    settingsRefusal badGroup badQuorums firstOf refusals refusal pick sizesInRange coefficientsInRange tableInRange allBelow inRange limitsInOrder
     updated commanded issued e next Law.command sum divided limited clamp filled normalised anyMark markBeyond
     updateLimited commandLimited eChanged nextChanged commandChanged limitsChange clampChanges anyBelow
     found kindOf readRefusal readFrame fieldsIn isFrame headerOk partsOk lengthOk partCountOk byteThreeOk pairsOk sizesOk kindOk partCount hasParts
@@ -85,22 +86,22 @@ bytes-of b (c ∷ l) (inr p) = let (d, i, q) = bytes-of b l p in (d, inr i, q)
 -- where the commands are known, the last period decided is the largest of theirs
 last-of : (h : List (Entry Handed Areas)) (commands : List (List ℕ)) (k : ℕ) → commandsOf h ≡ commands → (b : List ℕ) → In b commands
     → commandPeriod b ≡ k → ((b : List ℕ) → In b commands → commandPeriod b ≤ k)
-    → (run : Demand3 (group 3 benchLaw) (lawOf benchLaw) h) → run .last ≡ k
+    → (run : Demand3 (group 3 (bench .quorums) benchLaw) (lawOf benchLaw) h) → run .last ≡ k
 last-of h commands k w b p e most run = go (run .isLast)
   where
     reached : k ≤ run .last
     reached =
-        let (c, i, q) = bytes-of b (after (group 3 benchLaw) h .issued) (subst (In b) (sym w) p) in
+        let (c, i, q) = bytes-of b (after (group 3 (bench .quorums) benchLaw) h .issued) (subst (In b) (sym w) p) in
         let d = run .decided c i in
         let z : d .period ≡ k = sym (d .written) ∙ ap commandPeriod q ∙ e in
         let m = d .most in
         omega arith
 
-    go : (run .last ≡ 0) ⊎ ((c : Issued Replica) × In c (after (group 3 benchLaw) h .issued) × (commandPeriod (c .bytes) ≡ run .last)) → run .last ≡ k
+    go : (run .last ≡ 0) ⊎ ((c : Issued Replica) × In c (after (group 3 (bench .quorums) benchLaw) h .issued) × (commandPeriod (c .bytes) ≡ run .last)) → run .last ≡ k
     go (inl z) = let m = reached in omega arith
     go (inr (c, i, z)) =
         let m = reached in
-        let u = most (c .bytes) (subst (In (c .bytes)) w (bytes-in c (after (group 3 benchLaw) h .issued) i)) in
+        let u = most (c .bytes) (subst (In (c .bytes)) w (bytes-in c (after (group 3 (bench .quorums) benchLaw) h .issued) i)) in
         omega arith
 
 -- no command of the list is of a later period than k
@@ -119,7 +120,7 @@ witness : (h : List (Entry Handed Areas)) (lines : List Line) (newest : List ℕ
     → commandPeriod newest ≡ k → NoneLater k (newest ∷ others) → Witness h lines (newest ∷ others) k
 witness h lines newest others k w e most =
     let start = first-i32 0 5 (lit< tt) in
-    let run = demand-3 3 benchLaw start accepted h in record {
+    let run = demand-3 3 (bench .quorums) benchLaw start accepted h in record {
       start = start;
       accepted = accepted;
       given = w .0;

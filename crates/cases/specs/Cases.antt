@@ -1,4 +1,4 @@
--- The cases P1 to P10 of document 01, "Cases", with those of document 02, L1 and L2: one table, and one theorem over its rows, about the
+-- The cases P1 to P10 of document 01, "Cases", with those of document 02, L1, L2 and L8: one table, and one theorem over its rows, about the
 -- definitions that the contracts cite.
 use Prim.Native.Nat.{ℕ}
 use mathlib.Core.Path.{_≡_, refl}
@@ -26,9 +26,12 @@ use Rattle.estimate.specs.Fields.{noEstimate}
 use Rattle.estimate.specs.Marks.{bit}
 use Rattle.frame.specs.Kinds.{anyOf, partsOf, partCount, hasParts}
 use Rattle.frame.specs.Format.{header, frameBytes}
-use Rattle.scram.specs.Quorum.{majority, coordinator, beats}
+use Rattle.scram.specs.Quorum.{coordinator, beats}
 use Rattle.scram.specs.Held.{Best}
 use Rattle.scram.specs.Events.{better}
+use Rattle.quorums.specs.Quorums.{badQuorums}
+use Rattle.replica.specs.declared.Settings.{Settings}
+use Rattle.replica.specs.Settings.{badGroup, settingsRefusal}
 use Rattle.setup.specs.Bench.{first, bench}
 
 -- a case: what a definition gives, and what document 01 says, each as a list of numbers
@@ -46,6 +49,10 @@ one n = pos n ∷ []
 -- the state after one update of state x under the bench's law, with a reading y
 abbrev after : ℤ → Bool → ℤ → List ℤ
 after x mark y = updated (bench .law) (first x 5) (record { present = mark ∷ replicate 3 false; values = first y 3 })
+
+-- settings of box 1 of N boxes with quorum numbers a and b, under the bench's law
+abbrev settings : (N a b : ℕ) → Settings
+settings N a b = record { boxes = N; own = 1; quorums = record { «to_decide» = a; «to_propose» = b }; law = bench .law }
 
 -- an Ack of box 2, period 1, view 0
 abbrev ack : Frame
@@ -95,7 +102,7 @@ beyond r = one (bit (markBeyond 1 (convertedRow (Missing ∷ r ∷ Missing ∷ M
 
 -- P1 "bench law, x 0, y 101: 50." P2 "y −101", which "becomes −50". P3 "x 50, y 101", which "becomes 76". P4 "x 50, absent: 50.", with a value
 -- under the absent mark. P5 "x −2147483648, y 2147483647", which "becomes −1073741824". "With bench settings and x 0, y 101 gives 50 and 103 gives 52":
--- 101 is P1, 103 has a row of its own. P6 "majority of 4: 3." P7 "N 3, view 2: box 3."
+-- 101 is P1, 103 has a row of its own. P6, which "becomes: N 4, a 2, b 2 refused by 18". P7 "N 3, view 2: box 3."
 -- P8 "Ack of box 2, period 1, view 0: `02 02 00 00 01`, then fifteen `00`."
 -- P9 "estimate with base view 5, period 3 beats 4, 4", also where its box has the higher number.
 -- P10 "equal bases from boxes 2 and 3: box 2's", whichever is heard first.
@@ -110,7 +117,7 @@ cases =
     ∷ case (after (pos 50) false (pos 101)) (first (pos 50) 5)
     ∷ case (after (minus 2147483648) true (pos 2147483647)) (first (minus 1073741824) 5)
     ∷ case (after (pos 0) true (pos 103)) (first (pos 52) 5)
-    ∷ case (one (majority 4)) (one 3)
+    ∷ case (one (settingsRefusal (settings 4 2 2))) (one 18)
     ∷ case (one (coordinator 3 2)) (one 3)
     ∷ case (map pos (frameBytes 1 1 ack)) (map pos (2 ∷ 2 ∷ 0 ∷ 0 ∷ 1 ∷ replicate 15 0))
     ∷ case (one (better (estimate 1 4 4) (estimate 9 5 3) .estimate .state)) (one 9)
@@ -135,6 +142,6 @@ cases =
 -- every row holds
 pub cases-hold : map (λ (c : Case). c .gives) cases ≡ map (λ (c : Case). c .says) cases
 unfolding updated refusal refusals firstOf sizesInRange coefficientsInRange tableInRange allBelow inRange limitsInOrder filled next e sum divided
-    limited clamp majority coordinator frameBytes header partCount hasParts partsOf anyOf littleEndian better beats pick
+    limited clamp settingsRefusal badGroup badQuorums coordinator frameBytes header partCount hasParts partsOf anyOf littleEndian better beats pick
     convertedRow converted convertedNewtons convertedSingle withinI32 inUnits floor scale magnitude exponent isNan toBits markBeyond anyMark
 cases-hold = refl

@@ -23,7 +23,7 @@ use Rattle.frame.specs.Lengths.{longestFrame, longestCommand}
 use Rattle.replica.specs.declared.Replica.{Replica}
 use Rattle.replica.specs.Settings.{settingsRefusal, lawOf}
 use Rattle.group.specs.Group.{Handed, Areas, outcomeOf, settingsOf, group}
-use Rattle.setup.specs.Bench.{first, benchLaw}
+use Rattle.setup.specs.Bench.{first, benchLaw, bench}
 
 -- ---- entries, as lines of the bench have them; the entries are counted from 0
 
@@ -103,7 +103,7 @@ inputOf sent GiveUp = GiveUp
 abbrev lineOf : Situation Replica → Entry Handed Areas → Line
 lineOf w e =
     let before = w .box (e .box) in
-    let r = called (group 3 benchLaw) before (w .sent) (e .event) (e .areas) in record {
+    let r = called (group 3 (bench .quorums) benchLaw) before (w .sent) (e .event) (e .areas) in record {
       who = e .box;
       answer = outcomeOf before (inputOf (w .sent) (e .event)) (e .areas) .answer;
       k = r .box .held .period;
@@ -118,11 +118,11 @@ lineOf w e =
 -- one entry after the other
 unfoldable pub linesFrom : Situation Replica → List (Entry Handed Areas) → List Line
 linesFrom w [] = []
-linesFrom w (e ∷ h) = lineOf w e ∷ linesFrom (step (group 3 benchLaw) w e) h
+linesFrom w (e ∷ h) = lineOf w e ∷ linesFrom (step (group 3 (bench .quorums) benchLaw) w e) h
 
 -- the lines of a history
 abbrev pub linesOf : List (Entry Handed Areas) → List Line
-linesOf h = linesFrom (after (group 3 benchLaw) []) h
+linesOf h = linesFrom (after (group 3 (bench .quorums) benchLaw) []) h
 
 abbrev line : ℕ → Answered → ℕ → ℕ → ℕ → ℕ → ℕ → ℕ → List ℕ → Line
 line who answer k v vb kb x frame command = record {
@@ -145,16 +145,16 @@ command period value = 5 ∷ 1 ∷ 0 ∷ 0 ∷ period ∷ 0 ∷ 0 ∷ 0 ∷ valu
 
 -- the commands that a history has written, each as its bytes, the newest first
 abbrev pub commandsOf : List (Entry Handed Areas) → List (List ℕ)
-commandsOf h = map (λ (c : Issued Replica). c .bytes) (after (group 3 benchLaw) h .issued)
+commandsOf h = map (λ (c : Issued Replica). c .bytes) (after (group 3 (bench .quorums) benchLaw) h .issued)
 
 -- demand 3's premises hold, the entries give these lines, these commands are written, and the run of the single controller goes to the last of
 -- their periods
 pub record Witness (h : List (Entry Handed Areas)) (lines : List Line) (commands : List (List ℕ)) (last : ℕ) : Type 0 where
   pub start : AllI32 (benchLaw .start)
-  pub accepted : settingsRefusal (settingsOf 3 benchLaw 1) ≡ 0
+  pub accepted : settingsRefusal (settingsOf 3 (bench .quorums) benchLaw 1) ≡ 0
   pub given : linesOf h ≡ lines
   pub written : commandsOf h ≡ commands
-  pub run : Demand3 (group 3 benchLaw) (lawOf benchLaw) h
+  pub run : Demand3 (group 3 (bench .quorums) benchLaw) (lawOf benchLaw) h
   pub decided : run .last ≡ last
 
 -- ---- the bench's example

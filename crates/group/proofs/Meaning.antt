@@ -1,33 +1,35 @@
 -- What the history calls a result is what a call leaves; and its fresh replica is the one that making gives. Assumes nothing.
 use mathlib.Core.Path.{_≡_, sym, ap, _∙_}
+use mathlib.Core.Bool.{false}
 use mathlib.Core.List.{List}
 use Prim.Native.Nat.{ℕ, _≤_}
 use lib.ListN.{length, take}
 use borrow.Author.Tests.{le-ltb}
-use Rattle.lists.specs.Choice.{pick}
-use Rattle.lists.specs.Refusals.{firstOf}
+use Rattle.quorums.specs.declared.Quorums.{Quorums}
 use Rattle.law.specs.declared.Settings as Law
-use Rattle.law.proofs.Lent.{refusal-first}
 use Rattle.bytes.specs.Areas.{over}
 use Rattle.bytes.proofs.Areas.{over-first}
 use Rattle.replica.specs.Settings.{badGroup, settingsRefusal}
 use Rattle.replica.specs.Calls.{made}
-use Rattle.replica.proofs.Accepted.{accepted}
+use Rattle.replica.proofs.Accepted.{accepted, not-refused}
 use Rattle.replica.proofs.Calls.{made-done}
 use Rattle.scram.specs.Shown.{isRefused}
 use Rattle.group.specs.Group.{settingsOf, group}
 use Rattle.group.specs.Meaning.{Written, Meaning}
 
-module _ (N : ℕ) (law : Law.Settings) (e : settingsRefusal (settingsOf N law 1) ≡ 0) (i : ℕ) (from1 : 1 ≤ i) (most : i ≤ N) where
-  -- settings accepted for box 1 are accepted for each box of the group
-  pub accepted-each : settingsRefusal (settingsOf N law i) ≡ 0
-  unfolding settingsRefusal badGroup firstOf pick
-  accepted-each =
-      let a = accepted (settingsOf N law 1) e in
-      rw (le-ltb N 3 (a .group .N3), le-ltb 9 N (a .group .N9), le-ltb i 1 from1, le-ltb N i most) (refusal-first law ∙ a .law)
+module _ (N : ℕ) (q : Quorums) (law : Law.Settings) (e : settingsRefusal (settingsOf N q law 1) ≡ 0) (i : ℕ) (from1 : 1 ≤ i) (most : i ≤ N) where
+  one-of-group : badGroup N i ≡ false
+  unfolding badGroup
+  one-of-group =
+      let a = accepted (settingsOf N q law 1) e in
+      rw (le-ltb N 3 (a .group .N3), le-ltb 9 N (a .group .N9), le-ltb i 1 from1, le-ltb N i most)
 
-  pub fresh-made : group N law .fresh i ≡ made (settingsOf N law i)
-  fresh-made = sym (made-done (settingsOf N law i) accepted-each .1)
+  -- settings accepted for box 1 are accepted for each box of the group
+  pub accepted-each : settingsRefusal (settingsOf N q law i) ≡ 0
+  accepted-each = let a = accepted (settingsOf N q law 1) e in sym (not-refused (settingsOf N q law i) one-of-group (a .law) (a .quorums))
+
+  pub fresh-made : group N q law .fresh i ≡ made (settingsOf N q law i)
+  fresh-made = sym (made-done (settingsOf N q law i) accepted-each .1)
 
 written : (bytes : List ℕ) (count : ℕ) (area area′ : List ℕ) → count ≡ length bytes → area′ ≡ over bytes area → Written bytes count area area′
 written bytes count area area′ q z = record {
@@ -37,7 +39,7 @@ written bytes count area area′ q z = record {
 }
 
 pub meaning : Meaning
-meaning N law r x a s frame′ command′ g = record {
+meaning N q law r x a s frame′ command′ g = record {
   replica = g .replica;
   refused = ap isRefused (g .answer);
   frame-written = written _ (s .frame) (a .frame) frame′ (g .frame-length) (g .frame-bytes);

@@ -7,12 +7,14 @@ use mathlib.Core.List.{List}
 use Rattle.lists.specs.I32.{AllI32}
 use Rattle.scram.specs.History.{Entry}
 use Rattle.scram.specs.Demand3.{Demand3}
+use Rattle.quorums.specs.declared.Quorums.{Quorums}
 use Rattle.law.specs.declared.Settings as Law
 use Rattle.replica.specs.Settings.{settingsRefusal, lawOf}
 use Rattle.group.specs.Group.{Handed, Areas, settingsOf, group}
 
--- N boxes, a law whose starting state has i32 values as its type says, settings that making accepts, any history
+-- N boxes, any a and b, a law whose starting state has i32 values as its type says, settings that making accepts ("demand 3 holds for all allowed pairs, shown for a
+-- and b as unknowns"), any history
 abbrev pub DemandThree : Type 0
 DemandThree =
-    (N : ℕ) (law : Law.Settings) → AllI32 (law .start) → settingsRefusal (settingsOf N law 1) ≡ 0
-    → (h : List (Entry Handed Areas)) → Demand3 (group N law) (lawOf law) h
+    (N : ℕ) (q : Quorums) (law : Law.Settings) → AllI32 (law .start) → settingsRefusal (settingsOf N q law 1) ≡ 0
+    → (h : List (Entry Handed Areas)) → Demand3 (group N q law) (lawOf law) h

@@ -12,6 +12,7 @@ use Rattle.transmitters.specs.Conversion.{convertedRow, AllCountsI32}
 use Rattle.scram.specs.Held.{Input, Tick, Arrival, GiveUp}
 use Rattle.scram.specs.History.{Result, System}
 use Rattle.scram.specs.Shown.{isRefused}
+use Rattle.quorums.specs.declared.Quorums.{Quorums}
 use Rattle.law.specs.declared.Settings as Law
 use Rattle.law.specs.declared.Marked.{Marked}
 use Rattle.frame.specs.Command.{commandPeriod}
@@ -47,10 +48,10 @@ resultOf s o = record {
   command = issuedBytes (s .law .p) (o .command);
 }
 
-module _ (N : ℕ) (law : Law.Settings) where
-  -- "settings differ in the own number alone"
+module _ (N : ℕ) (q : Quorums) (law : Law.Settings) where
+  -- "settings differ in the own number alone"; a and b "are equal in all boxes of a group"
   abbrev pub settingsOf : ℕ → Settings
-  settingsOf own = record { boxes = N; own = own; law = law }
+  settingsOf own = record { boxes = N; own = own; quorums = q; law = law }
 
   -- N boxes under this law. "7 looks at them converted", and "In the run of demand 3 a reading means its converted value."
   abbrev pub group : System (List ℤ) Readings Marked

@@ -9,6 +9,7 @@ use Rattle.scram.specs.Answers.{answered}
 use Rattle.scram.specs.Held.{Input}
 use Rattle.scram.specs.History.{Result}
 use Rattle.scram.specs.Shown.{isRefused}
+use Rattle.quorums.specs.declared.Quorums.{Quorums}
 use Rattle.law.specs.declared.Settings as Law
 use Rattle.replica.specs.declared.Replica.{Replica}
 use Rattle.replica.specs.declared.Stepped.{Stepped}
@@ -32,6 +33,6 @@ pub record Leaves (w : Result Replica) (s : Stepped) (frame frame′ command com
 -- for a tick, an arriving frame and a view given up: any replica, any lent areas, and any step that keeps the contract of its call
 abbrev pub Meaning : Type 0
 Meaning =
-    (N : ℕ) (law : Law.Settings) (r : Replica) (x : Input Handed (List ℕ)) (a : Areas) (s : Stepped) (frame′ command′ : List ℕ)
+    (N : ℕ) (q : Quorums) (law : Law.Settings) (r : Replica) (x : Input Handed (List ℕ)) (a : Areas) (s : Stepped) (frame′ command′ : List ℕ)
     → Gives (r .settings) (outcomeOf r x a) s (a .frame) frame′ (a .command) command′
-    → Leaves (group N law .call r x a) s (a .frame) frame′ (a .command) command′
+    → Leaves (group N q law .call r x a) s (a .frame) frame′ (a .command) command′

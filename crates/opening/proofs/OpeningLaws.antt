@@ -41,16 +41,17 @@ size-at (negsuc n) s e f = never (sym (rw (toZ-ofZ w32 (negsuc n) s) at e))
 
 -- sizes that are not refused
 pub record InRange (s : Sizes) : Type 0 where
+  pub three : 3 ≤ s .boxes
   pub boxes : s .boxes ≤ 9
   pub n : s .n ≤ 6
   pub m : s .m ≤ 4
   pub p : s .p ≤ 4
 
-not-refused : (a b t : Bool) → _≡_ {A = ℕ} (pick (a || b) 1 (pick t 0 2)) 0 → (b ≡ false) × (t ≡ true)
+not-refused : (a b t : Bool) → _≡_ {A = ℕ} (pick (a || b) 1 (pick t 0 2)) 0 → (a ≡ false) × (b ≡ false) × (t ≡ true)
 unfolding pick
 not-refused true b t e = absurd (omega arith)
 not-refused false true t e = absurd (omega arith)
-not-refused false false true e = (refl, refl)
+not-refused false false true e = (refl, refl, refl)
 not-refused false false false e = absurd (omega arith)
 
 at-most : (size most : ℕ) → fromOne size most ≡ true → size ≤ most
@@ -61,10 +62,11 @@ pub in-range : (s : Sizes) → sizesRefusal s ≡ 0 → InRange s
 unfolding sizesRefusal pick
 in-range s e =
     let r = not-refused (ltb (s .boxes) 3) (ltb 9 (s .boxes)) _ e in
-    let q = both (fromOne (s .n) 6) _ (r .1) in
+    let q = both (fromOne (s .n) 6) _ (r .2) in
     let t = both (fromOne (s .m) 4) _ (q .1) in
     record {
-      boxes = ltb-false 9 (s .boxes) (r .0);
+      three = ltb-false (s .boxes) 3 (r .0);
+      boxes = ltb-false 9 (s .boxes) (r .1);
       n = at-most (s .n) 6 (q .0);
       m = at-most (s .m) 4 (t .0);
       p = at-most (s .p) 4 (t .1);

@@ -16,7 +16,7 @@ use Rattle.replica.specs.Calls.{madeAnswer}
 use Rattle.line.specs.Fields.{spaces, field}
 use Rattle.line.proofs.FieldLaws.{one-more-le}
 use Rattle.opening.specs.declared.wrong.Wrong.the-variants as Wrong
-use Rattle.opening.specs.Wrong.{isRight, firstWrong, wrongForm, wrongSettings}
+use Rattle.opening.specs.Wrong.{isRight, firstWrong, wrongEnd, wrongForm, wrongSettings}
 
 -- a line has no more spaces than bytes
 pub spaces-le : (line : List ℕ) → spaces line ≤ length line
@@ -45,9 +45,9 @@ module _ (line : List ℕ) (fields needs count k : ℕ) (e : count ≡ min field
   unfolding wrongForm pick
   form-field l = rw (sym e, sym f, lt-ltb k count l, add-one)
 
-  pub form-fields : count ≤ k → Wrong.Fields fields needs ≡ wrongForm line fields needs
+  pub form-end : count ≤ k → wrongEnd line fields needs ≡ wrongForm line fields needs
   unfolding wrongForm pick
-  form-fields l = rw (sym e, sym f, le-ltb k count l)
+  form-end l = rw (sym e, sym f, le-ltb k count l) refl
 
 -- ---- settings, by what making answers
 

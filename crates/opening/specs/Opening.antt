@@ -1,8 +1,8 @@
--- The first line of `rig`: `rig N n m p`, the numbers of A, L, C and K row by row, the lower limits, the upper limits and the start. Field 5 is
--- the first number of A.
+-- The first line of `rig`: `rig N n m p`, the numbers of A, L, C and K row by row, the lower limits, the upper limits and the start, and perhaps
+-- ` quorums a b`. Field 5 is the first number of A.
 use Prim.Native.Nat.{ℕ, _+_, _*_, _/_, _%_}
 use mathlib.Core.Bool.{Bool, not, _&&_, _||_}
-use mathlib.Core.List.{List}
+use mathlib.Core.List.{List, [], _∷_}
 use lib.ListN.{length, getD}
 use lib.Dec.{eqb, leb, ltb}
 use lib.IntN.{ℤ, pos, negsuc}
@@ -10,6 +10,8 @@ use Rattle.lists.specs.Choice.{pick}
 use Rattle.lists.specs.Places.{filled}
 use Rattle.lists.specs.Below.{allBelow}
 use Rattle.law.specs.declared.Settings as Law
+use Rattle.quorums.specs.declared.Quorums.{Quorums}
+use Rattle.quorums.specs.Quorums.{majorities}
 use Rattle.replica.specs.Settings.{blankSettings}
 use Rattle.text.specs.declared.numbers.Number.{Number}
 use Rattle.text.specs.declared.numbers.Number.the-variants.{Whole, Malformed}
@@ -68,9 +70,35 @@ startsOf n m p = record {
 unfoldable pub allNumbers : ℕ → List ℕ → Bool
 allNumbers count line = allBelow count (λ j. isWhole (numberOf (field (j + 5) line)))
 
--- so many numbers stand after the sizes, and nothing else
+-- the word `quorums`
+abbrev pub quorumsWord : List ℕ
+quorumsWord = 113 ∷ 117 ∷ 111 ∷ 114 ∷ 117 ∷ 109 ∷ 115 ∷ []
+
+-- this word is `quorums`: as long, and each byte the same
+unfoldable pub isQuorums : List ℕ → Bool
+isQuorums word = eqb (length word) 7 && allBelow 7 (λ j. eqb (getD word j 0) (getD quorumsWord j 0))
+
+-- a and b, behind so many numbers and the word `quorums`
+abbrev pub quorumsAt : ℕ → List ℕ → Quorums
+quorumsAt count line = record {
+  «to_decide» = sizeIn (numberOf (field (count + 6) line));
+  «to_propose» = sizeIn (numberOf (field (count + 7) line));
+}
+
+-- behind so many numbers stands nothing, or "` quorums a b` (each 0 to 255)"
+unfoldable pub ended : ℕ → List ℕ → Bool
+ended count line =
+    pick (isQuorums (field (count + 5) line))
+    (eqb (spaces line) (count + 7) && (leb (quorumsAt count line .«to_decide») 255 && leb (quorumsAt count line .«to_propose») 255))
+    (eqb (spaces line) (count + 4))
+
+-- so many numbers stand after the sizes, and nothing else but a and b
 unfoldable pub numbered : ℕ → List ℕ → Bool
-numbered count line = eqb (spaces line) (count + 4) && allNumbers count line
+numbered count line = ended count line && allNumbers count line
+
+-- "the first line may end with ` quorums a b` ..; without it both are the majority"
+unfoldable pub quorumsIn : ℕ → List ℕ → ℕ → Quorums
+quorumsIn count line N = pick (isQuorums (field (count + 5) line)) (quorumsAt count line) (majorities N)
 
 -- place k of a table with rows of `stride` places: the entry of row k / stride and column k % stride, and 0 where there is none
 unfoldable pub entryOf : List ℕ → ℕ → ℕ → ℕ → ℕ → ℕ → ℤ
@@ -101,12 +129,15 @@ abbrev pub unopened : Opening → Opened
 unopened opening = record { opening = opening; settings = blankSettings }
 
 -- a group of this size, with the settings of its box 1
-abbrev pub openedAs : Sizes → Law.Settings → Opened
-openedAs s law = record { opening = Ready; settings = record { boxes = s .boxes; own = 1; law = law } }
+abbrev pub openedAs : Sizes → Quorums → Law.Settings → Opened
+openedAs s quorums law = record { opening = Ready; settings = record { boxes = s .boxes; own = 1; quorums = quorums; law = law } }
 
 -- the group of a line whose sizes are in range
 unfoldable pub openedWith : List ℕ → Sizes → Starts → Opened
-openedWith line s at = pick (numbered (at .count) line) (openedAs s (lawIn line (s .n) (s .m) (s .p) at)) (unopened Bad)
+openedWith line s at =
+    pick (numbered (at .count) line)
+    (openedAs s (quorumsIn (at .count) line (s .boxes)) (lawIn line (s .n) (s .m) (s .p) at))
+    (unopened Bad)
 
 -- "Where refusal 1 or 2 would refuse N, n, m or p, it prints `r1` or `r2` alone, whatever follows on that line; else a line not of this form
 -- prints `bad` alone"

@@ -1,4 +1,5 @@
-// The first line of `rig`: the sizes of a group, its tables, limits and start.
+// The first line of `rig`: the sizes of a group, its tables, limits, start and quorum numbers.
+mod ending;
 pub mod wrong;
 
 ghost use mathlib.Core.Path.{_≡_};
@@ -8,8 +9,10 @@ ghost use lib.IntN.{pos};
 ghost use Rattle.text.specs.Numbers.{numberOf};
 ghost use Rattle.opening.specs.Opening.{sizeIn, sizesIn, isRig, begun, fromOne, sizesRefusal, startsOf, allNumbers, numbered, entryOf, tableOf, lawIn, openedBy};
 ghost use Rattle.opening.specs.Opening.{unopened as Opening·unopened};
-use line::fields::count_spaces;
+use ending::has_ended;
+use ending::quorums_in;
 use line::fields::field;
+use quorums::Quorums;
 use replica::Settings;
 use text::numbers::Number;
 use text::numbers::is_whole;
@@ -184,12 +187,12 @@ fn all_numbers(line: &[u8], count: usize) -> bool
     true
 }
 
-// Whether so many numbers stand after the sizes, and nothing else.
+// Whether so many numbers stand after the sizes, and nothing else but the quorum numbers.
 fn is_numbered(line: &[u8], count: usize) -> bool
     requires { ⌜ count ≤ 200 ⌝ }
     ensures { λ r. ⌜ r ≡ numbered count (now (line .entry)) ⌝ }
 {
-    if count_spaces(line) != count + 4 {
+    if !has_ended(line, count) {
         return false;
     }
     all_numbers(line, count)
@@ -273,9 +276,14 @@ fn unopened(opening: Opening) -> Opened
         high: [0i32; 4],
         start: [0i32; 6],
     };
+    let quorums = Quorums {
+        to_decide: 0,
+        to_propose: 0,
+    };
     let settings = Settings {
         boxes: 0,
         own: 0,
+        quorums,
         law,
     };
     Opened { opening, settings }
@@ -300,10 +308,13 @@ pub fn open(line: &[u8]) -> Opened
     if !is_numbered(line, at.count) {
         return unopened(Opening::Bad);
     }
+    let boxes = s.boxes as u8;
+    let quorums = quorums_in(line, at.count, boxes);
     let law = law_in(line, n, m, p, at);
     let settings = Settings {
-        boxes: s.boxes as u8,
+        boxes,
         own: 1,
+        quorums,
         law,
     };
     Opened {

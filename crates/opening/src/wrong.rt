@@ -1,9 +1,10 @@
 // What is wrong with a first line of `rig`, for its message on standard error.
 ghost use mathlib.Core.Path.{_≡_};
 ghost use Prim.Native.Nat.{_≤_};
-ghost use Rattle.opening.specs.Wrong.{isRight, firstWrong, needed as Wrong·needed, wrongForm, wrongSettings, wrongBy, wrongIn};
+ghost use Rattle.opening.specs.Wrong.{isRight, firstWrong, needed as Wrong·needed, wrongQuorum, wrongEnd, wrongForm, wrongSettings, wrongBy, wrongIn};
 use crate::Opening;
 use crate::Sizes;
+use crate::ending::is_quorums;
 use crate::is_rig;
 use crate::open;
 use crate::size_in;
@@ -19,10 +20,12 @@ use text::numbers::is_whole;
 use text::numbers::number_in;
 use text::printing::at_most;
 
-// Nothing, a field (counted from 1), how many fields there are and how many are needed, or the settings, by the number of their refusal.
+// Nothing, a field (counted from 1), a quorum number (by its field, counted from 1), how many fields there are and how many are needed, or the settings,
+// by the number of their refusal.
 pub enum Wrong {
     Nothing,
     Field(usize),
+    Quorum(usize),
     Fields(usize, usize),
     Refused(u8),
 }
@@ -56,7 +59,7 @@ fn first_wrong(line: &[u8], count: usize) -> usize
 
 // How many fields a line with these sizes needs.
 fn needed(s: Sizes) -> usize
-    ensures { λ r. ⌜ r ≡ Wrong·needed s ⌝ }
+    ensures { λ r. ⌜ (r ≡ Wrong·needed s) × (r ≤ 205) ⌝ }
 {
     if sizes_refusal(s) != 0 {
         return 5;
@@ -65,8 +68,36 @@ fn needed(s: Sizes) -> usize
     at.count + 5
 }
 
+// Whether field k of so many is there, and is no number from 0 to 255.
+fn is_wrong_quorum(line: &[u8], fields: usize, k: usize) -> bool
+    ensures { λ r. ⌜ r ≡ wrongQuorum (now (line .entry)) fields k ⌝ }
+{
+    if fields <= k {
+        return false;
+    }
+    255 < size_in(field(line, k))
+}
+
+// What is wrong behind so many fields that a line needs.
+fn wrong_end(line: &[u8], fields: usize, needs: usize) -> Wrong
+    requires { ⌜ needs ≤ 205 ⌝ }
+    ensures { λ r. ⌜ r ≡ wrongEnd (now (line .entry)) fields needs ⌝ }
+{
+    if !is_quorums(field(line, needs)) {
+        return Wrong::Fields(fields, needs);
+    }
+    if is_wrong_quorum(line, fields, needs + 1) {
+        return Wrong::Quorum(needs + 2);
+    }
+    if is_wrong_quorum(line, fields, needs + 2) {
+        return Wrong::Quorum(needs + 3);
+    }
+    Wrong::Fields(fields, needs + 3)
+}
+
 // What is wrong with the form of a line that has so many fields.
 fn wrong_form(line: &[u8], fields: usize, needs: usize) -> Wrong
+    requires { ⌜ needs ≤ 205 ⌝ }
     ensures { λ r. ⌜ r ≡ wrongForm (now (line .entry)) fields needs ⌝ }
 {
     let count = at_most(fields, needs);
@@ -74,7 +105,7 @@ fn wrong_form(line: &[u8], fields: usize, needs: usize) -> Wrong
     if k < count {
         return Wrong::Field(k + 1);
     }
-    Wrong::Fields(fields, needs)
+    wrong_end(line, fields, needs)
 }
 
 // What is wrong with settings.

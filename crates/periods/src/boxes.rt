@@ -59,7 +59,13 @@ fn law(n: usize, m: usize, p: usize) -> law::Settings {
 }
 
 fn made(boxes: u8, own: u8, law: law::Settings) -> Replica {
-    let made = Replica::make(Settings { boxes, own, law });
+    let quorums = quorums::majorities(boxes);
+    let made = Replica::make(Settings {
+        boxes,
+        own,
+        quorums,
+        law,
+    });
     made.replica
 }
 

@@ -43,9 +43,9 @@ isOk bytes = same bytes (111 ∷ 107 ∷ [])
 unfoldable pub isIgnored : List ℕ → Bool
 isIgnored bytes = same bytes (105 ∷ 103 ∷ 110 ∷ 111 ∷ 114 ∷ 101 ∷ 100 ∷ [])
 
--- the number of a refusal: a replica refuses by 1 to 12, a box that comes back by 16, and a commit by 17
+-- the number of a refusal: a replica refuses by 1 to 12 and 18, a box that comes back by 16, and a commit by 17
 unfoldable pub isRefusalNumber : List ℕ → Bool
-isRefusalNumber bytes = isUpTo 12 bytes || (same bytes (49 ∷ 54 ∷ []) || same bytes (49 ∷ 55 ∷ []))
+isRefusalNumber bytes = isUpTo 12 bytes || (same bytes (49 ∷ 54 ∷ []) || (same bytes (49 ∷ 55 ∷ []) || same bytes (49 ∷ 56 ∷ [])))
 
 -- "`r` and the number, as `r9`"
 unfoldable pub isRefusal : List ℕ → Bool

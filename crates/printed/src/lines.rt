@@ -82,7 +82,10 @@ fn is_refusal_number(bytes: &[u8]) -> bool
     if same(bytes, b"16") {
         return true;
     }
-    same(bytes, b"17")
+    if same(bytes, b"17") {
+        return true;
+    }
+    same(bytes, b"18")
 }
 
 // `r` and a number.

@@ -174,6 +174,6 @@ module _ (b : List ℕ) (bytes : AllBytes b) (e : isRecord b ≡ true) where
   unfolding replicaIn
   back =
       let l = facts .layout in
-      let settings = settings-written b bytes (l .long) (l .byte-0) (l .byte-1) (l .byte-7) in
+      let settings = settings-written b bytes (l .long) (l .byte-0) (l .byte-1) in
       let held = held-back b bytes (l .long) _ _ _ (sizes .m1) (sizes .m4) (facts .held) in
       recorded-whole (replicaIn b) back-in-order ∙ (λ i. settings i ++ held i) ∙ take-append-drop settingsLength b

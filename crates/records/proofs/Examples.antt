@@ -16,6 +16,7 @@ use Rattle.estimate.specs.Fields.{carriedEstimate}
 use Rattle.estimate.specs.Marks.{marksByte, marksIn, marksBelow, absentZero}
 use Rattle.estimate.specs.Format.{stateBytes, readingsBytes, estimateBytes}
 use Rattle.estimate.specs.Reading.{stateIn, readingsIn, estimateAt}
+use Rattle.quorums.specs.Quorums.{badQuorums}
 use Rattle.replica.specs.declared.Replica.{Replica}
 use Rattle.replica.specs.Settings.{badGroup, settingsRefusal}
 use Rattle.records.specs.SettingsPart.{headBytes, tablesBytes, settingsBytes, valuesAt, lawIn, settingsIn}
@@ -36,6 +37,7 @@ example = record {
   settings = record {
     boxes = 3;
     own = 2;
+    quorums = record { «to_decide» = 2; «to_propose» = 3 };
     law = record {
       n = 1;
       m = 1;
@@ -69,7 +71,7 @@ unfolding recordBytes recordedHeld recordedBest settingsBytes headBytes tablesBy
 example-length = refl
 
 -- the eight bytes before the tables
-pub example-head : take 8 (recordBytes example) ≡ 82 ∷ 1 ∷ 3 ∷ 2 ∷ 1 ∷ 1 ∷ 1 ∷ 0 ∷ []
+pub example-head : take 8 (recordBytes example) ≡ 82 ∷ 2 ∷ 3 ∷ 2 ∷ 1 ∷ 1 ∷ 1 ∷ 50 ∷ []
 unfolding recordBytes settingsBytes headBytes
 example-head = refl
 
@@ -92,7 +94,7 @@ unfolding recordBytes recordedHeld recordedBest settingsBytes headBytes tablesBy
     estimateBytes stateBytes readingsBytes marksByte littleEndian twosComplement valuesBytes
     isRecord layoutOk settingsOk heldOk bytesMean marksMean heardOk basesOk estimateOk statesOk valuesOk bestOk zeroAt allBelow
     settingsIn lawIn valuesAt valueAt numberAt spelled fromTwosComplement heldAt bestAt heardAt estimateAt stateIn readingsIn marksIn
-    marksBelow absentZero settingsRefusal badGroup refusals firstOf sizesInRange inRange tableInRange coefficientsInRange limitsInOrder
+    marksBelow absentZero settingsRefusal badGroup badQuorums refusals firstOf sizesInRange inRange tableInRange coefficientsInRange limitsInOrder
 example-is-record = refl
 
 -- and the replica that is read of it is the very replica

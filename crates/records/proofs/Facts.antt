@@ -21,7 +21,6 @@ pub record Layout (b : List ℕ) : Type 0 where
   pub long : length b ≡ recordLength
   pub byte-0 : getD b 0 0 ≡ letter
   pub byte-1 : getD b 1 0 ≡ version
-  pub byte-7 : getD b 7 0 ≡ 0
 
 module _ (b : List ℕ) where
   layout-facts : layoutOk b ≡ true → Layout b
@@ -29,12 +28,11 @@ module _ (b : List ℕ) where
   layout-facts e =
       let p = both (eqb (length b) recordLength) _ e in
       let q = both (eqb (getD b 0 0) letter) _ (p .1) in
-      let r = both (eqb (getD b 1 0) version) _ (q .1) in
-      record { long = eqb-true _ _ (p .0); byte-0 = eqb-true _ _ (q .0); byte-1 = eqb-true _ _ (r .0); byte-7 = eqb-true _ _ (r .1) }
+      record { long = eqb-true _ _ (p .0); byte-0 = eqb-true _ _ (q .0); byte-1 = eqb-true _ _ (q .1) }
 
   layout-holds : Layout b → layoutOk b ≡ true
   unfolding layoutOk
-  layout-holds l = rw (eq-eqb _ _ (l .long), eq-eqb _ _ (l .byte-0), eq-eqb _ _ (l .byte-1), eq-eqb _ _ (l .byte-7))
+  layout-holds l = rw (eq-eqb _ _ (l .long), eq-eqb _ _ (l .byte-0), eq-eqb _ _ (l .byte-1))
 
 -- ---- what is held
 

@@ -16,6 +16,7 @@ use Rattle.estimate.specs.declared.Estimate.{Estimate}
 use Rattle.estimate.specs.Fields.{TypedEstimate, carriedEstimate}
 use Rattle.estimate.specs.Marks.{marksByte, marksBelow}
 use Rattle.estimate.proofs.PresentMarks.{byte-below}
+use Rattle.quorums.proofs.Stand.{stand}
 use Rattle.replica.specs.declared.Settings.{Settings}
 use Rattle.replica.specs.declared.Best.{Best}
 use Rattle.replica.specs.declared.Held.{Held}
@@ -158,17 +159,20 @@ module _ (r : Replica) (o : InOrder r) where
   typed : TypedHeld h
   typed = held-typed (s .boxes) (s .law .n) (s .law .m) h few (sizes .m1) (sizes .m4) (o .held)
 
+  few-to-decide : s .quorums .«to_decide» < 16
+  few-to-decide = let a = stand _ _ (accepted s (o .stands) .quorums) .aN in omega (arith, few)
+
   whole-read : replicaIn whole ≡ r
   unfolding replicaIn
   whole-read =
-      let settings = settings-read s (heldBytes h) (o .settings) in
+      let settings = settings-read s (heldBytes h) (o .settings) few-to-decide in
       let held = held-read h (settingsBytes s) start typed in
       λ i. record { settings = settings i; held = held i }
 
   whole-holds : RecordFacts r whole
   whole-holds =
       let l = layout-read s (heldBytes h) in record {
-        layout = record { long = length-whole h (settingsBytes s) start typed; byte-0 = l .0; byte-1 = l .1; byte-7 = l .2 };
+        layout = record { long = length-whole h (settingsBytes s) start typed; byte-0 = l .0; byte-1 = l .1 };
         stands = o .stands;
         held = held-hold (s .boxes) (s .law .n) (s .law .m) h few (sizes .m1) (sizes .m4) (o .held) (settingsBytes s) start;
       }

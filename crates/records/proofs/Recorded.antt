@@ -9,7 +9,7 @@ use borrow.Author.Tests.{eqb-true, eqb-false, eq-eqb, ne-eqb, ltb-false}
 use Rattle.lists.specs.Choice.{pick}
 use Rattle.lists.specs.Refusals.{Refusal, refusal, firstOf}
 use Rattle.lists.proofs.Choice.{pick-true, pick-false}
-use Rattle.lists.proofs.Refusals.{passed, first-holds, first-fails, none-holds}
+use Rattle.lists.proofs.Refusals.{first-holds, first-fails, none-holds, refused-first, then-passed}
 use Rattle.scram.specs.Answers.{Done, Refused}
 use Rattle.law.specs.Settings.{refusals}
 use Rattle.replica.specs.declared.Settings.{Settings}
@@ -18,27 +18,7 @@ use Rattle.replica.specs.Settings.{settingsRefusals, settingsRefusal}
 use Rattle.records.specs.Lengths.{recordLength}
 use Rattle.records.specs.Recording.{shortRecord, recordRefusal, recordAnswer, recordBytes, recorded}
 
--- ---- a list of refusals, and others after it
-
--- a condition more
-step : (t : Bool) (number x y : ℕ) → ((x ≡ 0 → ⊥) → x ≡ y) → (pick t number x ≡ 0 → ⊥) → pick t number x ≡ pick t number y
-unfolding pick
-step true number x y next n = refl
-step false number x y next n = next n
-
--- one of the first is made: it comes first
-refused-first : (rs more : List Refusal) → (firstOf rs ≡ 0 → ⊥) → firstOf rs ≡ firstOf (rs ++ more)
-unfolding firstOf
-refused-first [] more n = absurd (n refl)
-refused-first (r ∷ rs) more n = step (r .holds) (r .number) (firstOf rs) (firstOf (rs ++ more)) (refused-first rs more) n
-
--- the first is not made, and others decide
-module _ (number : ℕ) (t : Bool) (rs more : List Refusal) where
-  then-passed : 1 ≤ number → firstOf (refusal number t ∷ rs) ≡ 0 → (firstOf rs ≡ 0 → firstOf (rs ++ more) ≡ firstOf more)
-      → firstOf ((refusal number t ∷ rs) ++ more) ≡ firstOf more
-  then-passed h e next = let p = passed number t rs h e in first-fails number t (rs ++ more) (p .0) ∙ next (p .1)
-
--- ---- 1 to 4, then 5
+-- ---- 1 to 4 and 18, then 5
 
 module _ (s : Settings) (area : ℕ) where
   pub refused-settings : (settingsRefusal s ≡ 0 → ⊥) → settingsRefusal s ≡ recordRefusal s area
@@ -51,7 +31,8 @@ module _ (s : Settings) (area : ℕ) where
       then-passed 1 _ _ _ (lit≤ tt) e
       (λ e. then-passed 2 _ _ _ (lit≤ tt) e
       (λ e. then-passed 3 _ _ _ (lit≤ tt) e
-      (λ e. then-passed 4 _ _ _ (lit≤ tt) e (λ _. refl))))
+      (λ e. then-passed 4 _ _ _ (lit≤ tt) e
+      (λ e. then-passed 18 _ _ _ (lit≤ tt) e (λ _. refl)))))
 
   pub refused-short : settingsRefusal s ≡ 0 → ltb area recordLength ≡ true → 5 ≡ recordRefusal s area
   refused-short e short = sym (only-area e ∙ first-holds 5 (ltb area recordLength) [] short)

@@ -1,7 +1,7 @@
 -- Laws of the settings' part of a record: its length, what was read is written again, and what was written is read again. Assumes nothing.
 use mathlib.Core.Path.{_≡_, refl, sym, ap, _∙_}
 use mathlib.Core.List.{List, [], _∷_, _++_, append-assoc}
-use Prim.Native.Nat.{ℕ, _+_, _*_, _≤_}
+use Prim.Native.Nat.{ℕ, _+_, _*_, _/_, _%_, _≤_, _<_}
 use native.Mathlib.Omega.{arith}
 use lib.ListN.{length, getD, take, drop, length-drop}
 use lib.Seq.{take-add, take-at, drop-at, drop-drop, getD-drop}
@@ -14,7 +14,7 @@ use Rattle.bytes.proofs.Numbers.{bytes-part, length-part, first-four}
 use Rattle.bytes.proofs.ValueLists.{length-valuesBytes, value-forth, values-back}
 use Rattle.replica.specs.declared.Settings.{Settings}
 use Rattle.records.specs.Lengths.{settingsLength, recordLength}
-use Rattle.records.specs.SettingsPart.{letter, version, headBytes, tablesBytes, settingsBytes, valuesAt, lawIn, settingsIn}
+use Rattle.records.specs.SettingsPart.{letter, version, quorumsByte, quorumsIn, headBytes, tablesBytes, settingsBytes, valuesAt, lawIn, settingsIn}
 use Rattle.records.specs.InOrder.{TypedSettings}
 use Rattle.records.proofs.PartLengths.{TypedTables, length-settings}
 
@@ -37,6 +37,10 @@ length-settingsBytes s t = length-settings s (typed-tables t)
 
 -- ---- settings that were read are written again
 
+-- byte 7 is written as it was read
+quorums-written : (byte : ℕ) → quorumsByte (quorumsIn byte) ≡ byte
+quorums-written byte = omega arith
+
 -- a table is written as the bytes that it was read from
 pub values-written : (b : List ℕ) (at count : ℕ) → AllBytes b → at + 4 * count ≤ length b → valuesBytes (valuesAt b at count) ≡ part b at (4 * count)
 unfolding valuesAt
@@ -52,11 +56,11 @@ then-part b i j k first second =
 
 module _ (b : List ℕ) (long : length b ≡ recordLength) where
   -- the eight bytes before the tables
-  pub head-written : getD b 0 0 ≡ letter → getD b 1 0 ≡ version → getD b 7 0 ≡ 0 → headBytes (settingsIn b) ≡ part b 0 8
+  pub head-written : getD b 0 0 ≡ letter → getD b 1 0 ≡ version → headBytes (settingsIn b) ≡ part b 0 8
   unfolding headBytes settingsIn lawIn
-  head-written e₀ e₁ e₇ =
-      let four : take 4 (drop 4 b) ≡ getD b 4 0 ∷ getD b 5 0 ∷ getD b 6 0 ∷ 0 ∷ [] =
-      first-four (drop 4 b) (simp length-drop (omega arith)) ∙ simp (getD-drop, e₇) in
+  head-written e₀ e₁ =
+      let four : take 4 (drop 4 b) ≡ getD b 4 0 ∷ getD b 5 0 ∷ getD b 6 0 ∷ quorumsByte (quorumsIn (getD b 7 0)) ∷ [] =
+      first-four (drop 4 b) (simp length-drop (omega arith)) ∙ simp (getD-drop, quorums-written (getD b 7 0)) in
       let front : take 4 b ≡ letter ∷ version ∷ getD b 2 0 ∷ getD b 3 0 ∷ [] = first-four b (omega arith) ∙ rw (e₀, e₁) in
       then-part b 0 4 4 (sym front) (sym four)
 
@@ -78,10 +82,10 @@ module _ (b : List ℕ) (long : length b ≡ recordLength) where
       then-part b 8 464 24 (then-part b 8 448 16 with-low high) start
 
 -- Whatever settings a record of the layout has, writing them gives the very bytes that they were read from.
-pub settings-written : (b : List ℕ) → AllBytes b → length b ≡ recordLength → getD b 0 0 ≡ letter → getD b 1 0 ≡ version → getD b 7 0 ≡ 0
+pub settings-written : (b : List ℕ) → AllBytes b → length b ≡ recordLength → getD b 0 0 ≡ letter → getD b 1 0 ≡ version
     → settingsBytes (settingsIn b) ≡ take settingsLength b
 unfolding settingsBytes settingsIn
-settings-written b h long e₀ e₁ e₇ = then-part b 0 8 488 (head-written b long e₀ e₁ e₇) (tables-written b long h)
+settings-written b h long e₀ e₁ = then-part b 0 8 488 (head-written b long e₀ e₁) (tables-written b long h)
 
 -- ---- settings that were written are read again
 
@@ -107,11 +111,11 @@ module _ (b : List ℕ) (at : ℕ) (vs : List ℤ) (count : ℕ) (rest : List �
   pub after-values : drop (at + 4 * count) b ≡ rest
   after-values = sym (drop-drop (4 * count) at b) ∙ ap (drop (4 * count)) there ∙ drop-at (valuesBytes vs) rest (4 * count) table-length
 
--- bytes 0, 1 and 7
+-- bytes 0 and 1
 pub layout-read : (s : Settings) (rest : List ℕ)
-    → (getD (settingsBytes s ++ rest) 0 0 ≡ letter) × (getD (settingsBytes s ++ rest) 1 0 ≡ version) × (getD (settingsBytes s ++ rest) 7 0 ≡ 0)
+    → (getD (settingsBytes s ++ rest) 0 0 ≡ letter) × (getD (settingsBytes s ++ rest) 1 0 ≡ version)
 unfolding settingsBytes headBytes
-layout-read s rest = (refl, refl, refl)
+layout-read s rest = (refl, refl)
 
 module _ (s : Settings) (rest : List ℕ) where
   tables-after-head : drop 8 (settingsBytes s ++ rest)
@@ -143,7 +147,13 @@ module _ (s : Settings) (rest : List ℕ) where
       let start = values-read b 472 (law .start) 6 rest (t .start-length) at₄₇₂ (t .start) in
       λ i. record { n = law .n; m = law .m; p = law .p; a = a i; l = l i; c = c i; k = k i; low = low i; high = high i; start = start i }
 
-  -- Reading the settings' part of a record gives the settings that it was written for, whatever comes after it.
-  pub settings-read : TypedSettings s → settingsIn (settingsBytes s ++ rest) ≡ s
+  quorums-read : s .quorums .«to_decide» < 16 → quorumsIn (quorumsByte (s .quorums)) ≡ s .quorums
+  quorums-read low =
+      let a : (quorumsByte (s .quorums)) % 16 ≡ s .quorums .«to_decide» = omega arith in
+      let b : (quorumsByte (s .quorums)) / 16 ≡ s .quorums .«to_propose» = omega arith in
+      λ i. record { «to_decide» = a i; «to_propose» = b i }
+
+  -- Reading the settings' part of a record gives the settings that it was written for, whatever comes after it: a has four bits in byte 7.
+  pub settings-read : TypedSettings s → s .quorums .«to_decide» < 16 → settingsIn (settingsBytes s ++ rest) ≡ s
   unfolding settingsIn settingsBytes headBytes
-  settings-read t = λ i. record { boxes = s .boxes; own = s .own; law = law-read t i }
+  settings-read t low = λ i. record { boxes = s .boxes; own = s .own; quorums = quorums-read low i; law = law-read t i }

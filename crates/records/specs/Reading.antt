@@ -29,9 +29,9 @@ replicaIn b = record { settings = settingsIn b; held = heldAt b settingsLength }
 
 -- ---- "record not of the layout"
 
--- its length, the letter, the version, and byte 7
+-- its length, the letter and the version
 unfoldable pub layoutOk : List ℕ → Bool
-layoutOk b = eqb (length b) recordLength && (eqb (getD b 0 0) letter && (eqb (getD b 1 0) version && eqb (getD b 7 0) 0))
+layoutOk b = eqb (length b) recordLength && (eqb (getD b 0 0) letter && eqb (getD b 1 0) version)
 
 -- a state's places from n on are not in use: 0
 unfoldable pub statesOk : ℕ → List ℤ → Bool
@@ -51,7 +51,7 @@ bestOk N best b = pick (best .any) (isBox N (best .«box_number»)) (zeroAt b 56
 
 -- ---- "with settings refused at making"
 
--- none of 1 to 4 refuses the settings in it
+-- none of 1 to 4 and 18 refuses the settings in it
 unfoldable pub settingsOk : List ℕ → Bool
 settingsOk b = eqb (settingsRefusal (settingsIn b)) 0
 

@@ -55,7 +55,7 @@ recordBytes r = settingsBytes (r .settings) ++ heldBytes (recordedHeld (r .setti
 abbrev pub shortRecord : ℕ → Refusal
 shortRecord area = refusal 5 (ltb area recordLength)
 
--- the number of the refusal, or 0, where the area is so long: 1 to 4 for the settings, then 5
+-- the number of the refusal, or 0, where the area is so long: 1 to 4 and 18 for the settings, then 5
 unfoldable pub recordRefusal : Settings → ℕ → ℕ
 recordRefusal s area = firstOf (settingsRefusals s ++ (shortRecord area ∷ []))
 

@@ -1,12 +1,13 @@
 -- The settings' part of a record: its bytes, and the settings in it. The seven tables stand whole, as they were given, also in places that are not in
 -- use: making keeps them so.
-use Prim.Native.Nat.{ℕ, _*_}
+use Prim.Native.Nat.{ℕ, _+_, _*_, _/_, _%_}
 use mathlib.Core.List.{List, [], _∷_, _++_}
 use lib.ListN.{getD}
 use lib.IntN.{ℤ, pos}
 use Rattle.lists.specs.Places.{filled}
 use Rattle.bytes.specs.Words.{part, valueLength, valuesBytes, valueAt}
 use Rattle.law.specs.declared.Settings as Law
+use Rattle.quorums.specs.declared.Quorums.{Quorums}
 use Rattle.replica.specs.declared.Settings.{Settings}
 
 -- ---- as bytes
@@ -17,11 +18,15 @@ letter = 82
 
 -- byte 1, the version of the layout
 abbrev pub version : ℕ
-version = 1
+version = 2
+
+-- byte 7, the quorum numbers: a in its four low bits and b in its four high ones. Neither is above 9 where 18 does not refuse them
+abbrev pub quorumsByte : Quorums → ℕ
+quorumsByte q = q .«to_decide» + 16 * q .«to_propose»
 
 -- the eight bytes before the tables
 unfoldable pub headBytes : Settings → List ℕ
-headBytes s = letter ∷ version ∷ s .boxes ∷ s .own ∷ s .law .n ∷ s .law .m ∷ s .law .p ∷ 0 ∷ []
+headBytes s = letter ∷ version ∷ s .boxes ∷ s .own ∷ s .law .n ∷ s .law .m ∷ s .law .p ∷ quorumsByte (s .quorums) ∷ []
 
 -- the tables, one after the other
 unfoldable pub tablesBytes : Law.Settings → List ℕ
@@ -34,7 +39,7 @@ tablesBytes law =
     ++ valuesBytes (law .high)
     ++ valuesBytes (law .start)
 
--- the settings' part: N, the own number and the sizes, then the tables
+-- the settings' part: N, the own number, the sizes and the quorum numbers, then the tables
 unfoldable pub settingsBytes : Settings → List ℕ
 settingsBytes s = headBytes s ++ tablesBytes (s .law)
 
@@ -59,6 +64,10 @@ lawIn b = record {
   start = valuesAt b 472 6;
 }
 
+-- the quorum numbers in byte 7
+abbrev pub quorumsIn : ℕ → Quorums
+quorumsIn byte = record { «to_decide» = byte % 16; «to_propose» = byte / 16 }
+
 -- the settings in a record
 unfoldable pub settingsIn : List ℕ → Settings
-settingsIn b = record { boxes = getD b 2 0; own = getD b 3 0; law = lawIn b }
+settingsIn b = record { boxes = getD b 2 0; own = getD b 3 0; quorums = quorumsIn (getD b 7 0); law = lawIn b }

@@ -20,14 +20,14 @@ use estimate::marks::absent_zero;
 use estimate::marks::marks_below;
 use replica::Best;
 
-// The length, the letter, the version, and byte 7.
+// The length, the letter and the version.
 pub fn layout_ok(bytes: &[u8]) -> bool
     ensures { λ r. ⌜ r ≡ layoutOk (now (bytes .entry)) ⌝ }
 {
     if bytes.len() != RECORD {
         return false;
     }
-    (bytes[0] == LETTER) & (bytes[1] == VERSION) & (bytes[7] == 0)
+    (bytes[0] == LETTER) & (bytes[1] == VERSION)
 }
 
 // The bits that are set in any of as many bytes from an offset on: they are below a power of two exactly where each of the bytes is. There is no way out

@@ -15,6 +15,7 @@ use crate::conditions::layout_ok;
 use crate::held_part::held_at;
 use crate::lengths::SETTINGS;
 use crate::settings_part::settings_in;
+use quorums::Quorums;
 use replica::Replica;
 use replica::Settings;
 use replica::refusals::settings_refusal;
@@ -63,7 +64,7 @@ pub(crate) fn settings_refusal_of(settings: Settings) -> u8
         &settings.law.low,
         &settings.law.high,
     );
-    settings_refusal(settings.boxes, settings.own, checked)
+    settings_refusal(settings.boxes, settings.own, settings.quorums, checked)
 }
 
 // Whether these settings stand, and bytes of a record's length hold what a record may. The tables are lent: a step needs them, and they are not copied
@@ -71,6 +72,7 @@ pub(crate) fn settings_refusal_of(settings: Settings) -> u8
 pub fn parts_ok<'a>(
     boxes: u8,
     own: u8,
+    quorums: Quorums,
     n: usize,
     m: usize,
     p: usize,
@@ -83,11 +85,11 @@ pub fn parts_ok<'a>(
     bytes: &[u8],
 ) -> bool
     requires { ⌜ length (now bytes) ≡ recordLength ⌝ }
-    ensures { λ r. ⌜ r ≡ (eqb (settingsRefusal (record { boxes = boxes; own = own; law = settingsOf n m p (now (a .entry)) (now (l .entry)) (now (c .entry)) (now (k .entry)) (now (low .entry)) (now (high .entry)) })) 0
+    ensures { λ r. ⌜ r ≡ (eqb (settingsRefusal (record { boxes = boxes; own = own; quorums = quorums; law = settingsOf n m p (now (a .entry)) (now (l .entry)) (now (c .entry)) (now (k .entry)) (now (low .entry)) (now (high .entry)) })) 0
         && heldOk boxes n m (heldAt (now (bytes .entry)) settingsLength) (now (bytes .entry))) ⌝ }
 {
     let checked = law::tables::check(n, m, p, a, l, c, k, low, high);
-    let number = settings_refusal(boxes, own, checked);
+    let number = settings_refusal(boxes, own, quorums, checked);
     if number != 0 {
         return false;
     }
@@ -106,6 +108,7 @@ pub fn read(bytes: &[u8]) -> Parsed
     let ok = parts_ok(
         settings.boxes,
         settings.own,
+        settings.quorums,
         settings.law.n,
         settings.law.m,
         settings.law.p,

@@ -91,7 +91,7 @@ fn recorded_held(n: usize, m: usize, held: Held) -> Held
     carried
 }
 
-// The number of the refusal of recording, or 0: 1 to 4 for the settings, then 5.
+// The number of the refusal of recording, or 0: 1 to 4 and 18 for the settings, then 5.
 pub fn refusal(settings: Settings, area: usize) -> u8
     ensures { λ r. ⌜ r ≡ recordRefusal settings area ⌝ }
 {

@@ -4,28 +4,38 @@ ghost use Prim.Native.Nat.{_+_, _≤_, _<_};
 ghost use lib.ListN.{length};
 ghost use Rattle.bytes.specs.Areas.{put};
 ghost use Rattle.records.specs.Lengths.{settingsLength, recordLength};
-ghost use Rattle.records.specs.SettingsPart.{headBytes, tablesBytes, settingsBytes, valuesAt, lawIn, settingsIn};
+ghost use Rattle.records.specs.SettingsPart.{quorumsByte, quorumsIn, headBytes, tablesBytes, settingsBytes, valuesAt, lawIn, settingsIn};
 use bytes::values::put_values;
 use bytes::values::read_values;
 use bytes::word::put_4;
+use quorums::Quorums;
 use replica::Settings;
 
 // Byte 0, the letter R.
 pub(crate) const LETTER: u8 = 82;
 
 // Byte 1, the version of the layout.
-pub(crate) const VERSION: u8 = 1;
+pub(crate) const VERSION: u8 = 2;
+
+// Byte 7: a in its four low bits, b in its four high ones.
+fn quorums_byte(quorums: Quorums) -> u8
+    requires { ⌜ quorumsByte quorums < 256 ⌝ }
+    ensures { λ r. ⌜ r ≡ quorumsByte quorums ⌝ }
+{
+    quorums.to_decide + 16 * quorums.to_propose
+}
 
 // The eight bytes before the tables.
 fn put_head(settings: Settings, area: &mut [u8])
-    requires { ⌜ (8 ≤ length (now area)) × (settings .law .n < 256) × (settings .law .m < 256) × (settings .law .p < 256) ⌝ }
+    requires { ⌜ (8 ≤ length (now area)) × (settings .law .n < 256) × (settings .law .m < 256) × (settings .law .p < 256) × (quorumsByte (settings .quorums) < 256) ⌝ }
     ensures { λ _. ⌜ now (area .exit) ≡ put (now (area .entry)) 0 (headBytes settings) ⌝ }
 {
     put_4(area, 0, LETTER, VERSION, settings.boxes, settings.own);
     let n = settings.law.n as u8;
     let m = settings.law.m as u8;
     let p = settings.law.p as u8;
-    put_4(area, 4, n, m, p, 0);
+    let quorums = quorums_byte(settings.quorums);
+    put_4(area, 4, n, m, p, quorums);
 }
 
 // The tables, one after the other.
@@ -44,7 +54,7 @@ fn put_tables(law: law::Settings, area: &mut [u8])
 
 // The settings' part, at the start of an area.
 pub(crate) fn put_settings(settings: Settings, area: &mut [u8])
-    requires { ⌜ (settingsLength ≤ length (now area)) × (settings .law .n < 256) × (settings .law .m < 256) × (settings .law .p < 256) ⌝ }
+    requires { ⌜ (settingsLength ≤ length (now area)) × (settings .law .n < 256) × (settings .law .m < 256) × (settings .law .p < 256) × (quorumsByte (settings .quorums) < 256) ⌝ }
     ensures { λ _. ⌜ now (area .exit) ≡ put (now (area .entry)) 0 (settingsBytes settings) ⌝ }
 {
     put_head(settings, area);
@@ -116,15 +126,27 @@ fn law_in(bytes: &[u8]) -> law::Settings
     }
 }
 
+// The quorum numbers in byte 7.
+fn quorums_in(byte: u8) -> Quorums
+    ensures { λ r. ⌜ r ≡ quorumsIn byte ⌝ }
+{
+    Quorums {
+        to_decide: byte % 16,
+        to_propose: byte / 16,
+    }
+}
+
 // The settings in a record.
 pub fn settings_in(bytes: &[u8]) -> Settings
     requires { ⌜ length (now bytes) ≡ recordLength ⌝ }
     ensures { λ r. ⌜ r ≡ settingsIn (now (bytes .entry)) ⌝ }
 {
     let law = law_in(bytes);
+    let quorums = quorums_in(bytes[7]);
     Settings {
         boxes: bytes[2],
         own: bytes[3],
+        quorums,
         law,
     }
 }

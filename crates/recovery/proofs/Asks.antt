@@ -10,11 +10,11 @@ use Rattle.bytes.specs.Areas.{over}
 use Rattle.transmitters.specs.declared.Reading.{Reading}
 use Rattle.scram.specs.Held.{Input, Tick, Arrival, GiveUp}
 use Rattle.scram.specs.History.{Issued, In}
-use Rattle.scram.proofs.Boxes.{two-majorities}
 use Rattle.frame.specs.Command.{commandPeriod}
 use Rattle.replica.specs.declared.Replica.{Replica}
 use Rattle.replica.specs.Settings.{lawOf}
 use Rattle.replica.specs.Calls.{Outcomes}
+use Rattle.replica.proofs.Accepted.{overlap}
 use Rattle.records.specs.Lengths.{recordLength}
 use Rattle.records.specs.Recording.{recorded}
 use Rattle.records.specs.Reading.{isDone}
@@ -24,7 +24,7 @@ use Rattle.asks.specs.declared.Asked.{Asked}
 use Rattle.asks.specs.Asking.{ticketsOf, stepOf, askOutcome, askedRecord, Asks}
 use Rattle.asks.specs.AskThenCommit as Asks
 use Rattle.asks.proofs.AskThenCommit.{ask-has, replica-is}
-use Rattle.group.specs.Group.{Areas, outcomeOf, group}
+use Rattle.group.specs.Group.{Areas, outcomeOf, settingsOf, group}
 use Rattle.group.specs.Group as Group
 use Rattle.group.specs.Command.{HoldsCommand}
 use Rattle.group.proofs.Theorem.{command-in-words}
@@ -46,52 +46,52 @@ use Rattle.recovery.proofs.Meaning.{written-there}
 
 -- of replicas with their records
 pub demand-3-asked : DemandThreeAsked
-demand-3-asked N law t e = Power.demand-3 (replicas N law t e) (isOk N law) (two-majorities N)
+demand-3-asked N q law t e = Power.demand-3 (replicas N q law t e) (isOk N q law) (overlap (settingsOf N q law 1) e)
 
 -- of the C firmware's areas, stored by `winder_record`
 pub demand-3-asked-written : DemandThreeAskedWritten
-demand-3-asked-written N law t e = Power.demand-3 (areas N law t e (written N law) (written-returns N law t e)) (isOkAt N law) (two-majorities N)
+demand-3-asked-written N q law t e = Power.demand-3 (areas N q law t e (written N q law) (written-returns N q law t e)) (isOkAt N q law) (overlap (settingsOf N q law 1) e)
 
 -- of the C firmware's areas and of the records that asks wrote, copied
 pub demand-3-asked-copied : DemandThreeAskedCopied
-demand-3-asked-copied N law t e = Power.demand-3 (areas N law t e (copied N law) (copied-returns N law t e)) (isOkAt N law) (two-majorities N)
+demand-3-asked-copied N q law t e = Power.demand-3 (areas N q law t e (copied N q law) (copied-returns N q law t e)) (isOkAt N q law) (overlap (settingsOf N q law 1) e)
 
 -- ---- all commands of one period that left are alike to the last byte
 
-pub commands-alike-asked : EveryGroup (λ N law. (h : List (Entry Group.Handed Areas)) (c d : Issued Replica)
-    → In c (after (group N law) (lawOf law) (storage N law) (isOk N law) h .plain .issued)
-    → In d (after (group N law) (lawOf law) (storage N law) (isOk N law) h .plain .issued)
+pub commands-alike-asked : EveryGroup (λ N q law. (h : List (Entry Group.Handed Areas)) (c d : Issued Replica)
+    → In c (after (group N q law) (lawOf law) (storage N q law) (isOk N q law) h .plain .issued)
+    → In d (after (group N q law) (lawOf law) (storage N q law) (isOk N q law) h .plain .issued)
     → commandPeriod (c .bytes) ≡ commandPeriod (d .bytes) → c .bytes ≡ d .bytes)
-commands-alike-asked N law t e h = Power.commands-alike (group N law) (lawOf law) (storage N law) (isOk N law) h (demand-3-asked N law t e h)
+commands-alike-asked N q law t e h = Power.commands-alike (group N q law) (lawOf law) (storage N q law) (isOk N q law) h (demand-3-asked N q law t e h)
 
-pub commands-alike-asked-copied : EveryGroup (λ N law. (h : List (Entry Firmware.Handed Areas)) (c d : Issued (List ℕ))
-    → In c (after (firmware N law) (lawOf law) (copied N law) (isOkAt N law) h .plain .issued)
-    → In d (after (firmware N law) (lawOf law) (copied N law) (isOkAt N law) h .plain .issued)
+pub commands-alike-asked-copied : EveryGroup (λ N q law. (h : List (Entry Firmware.Handed Areas)) (c d : Issued (List ℕ))
+    → In c (after (firmware N q law) (lawOf law) (copied N q law) (isOkAt N q law) h .plain .issued)
+    → In d (after (firmware N q law) (lawOf law) (copied N q law) (isOkAt N q law) h .plain .issued)
     → commandPeriod (c .bytes) ≡ commandPeriod (d .bytes) → c .bytes ≡ d .bytes)
-commands-alike-asked-copied N law t e h =
-    Power.commands-alike (firmware N law) (lawOf law) (copied N law) (isOkAt N law) h (demand-3-asked-copied N law t e h)
+commands-alike-asked-copied N q law t e h =
+    Power.commands-alike (firmware N q law) (lawOf law) (copied N q law) (isOkAt N q law) h (demand-3-asked-copied N q law t e h)
 
 -- ---- each holds the single controller's command of its period, with its mark
 
-pub command-of-decision-asked : EveryGroup (λ N law. (h : List (Entry Group.Handed Areas))
-    (run : Claim.Demand3 (group N law) (lawOf law) (storage N law) (isOk N law) h) (c : Issued Replica)
-    → In c (after (group N law) (lawOf law) (storage N law) (isOk N law) h .plain .issued) → HoldsCommand law (run .row) (c .bytes))
-command-of-decision-asked N law t e h run c p =
+pub command-of-decision-asked : EveryGroup (λ N q law. (h : List (Entry Group.Handed Areas))
+    (run : Claim.Demand3 (group N q law) (lawOf law) (storage N q law) (isOk N q law) h) (c : Issued Replica)
+    → In c (after (group N q law) (lawOf law) (storage N q law) (isOk N q law) h .plain .issued) → HoldsCommand law (run .row) (c .bytes))
+command-of-decision-asked N q law t e h run c p =
     let d = run .decided c p in command-in-words law (run .row) (d .period) (d .from1) (c .bytes) (d .written) (d .bytes)
 
-pub command-of-decision-asked-copied : EveryGroup (λ N law. (h : List (Entry Firmware.Handed Areas))
-    (run : Claim.Demand3 (firmware N law) (lawOf law) (copied N law) (isOkAt N law) h) (c : Issued (List ℕ))
-    → In c (after (firmware N law) (lawOf law) (copied N law) (isOkAt N law) h .plain .issued) → HoldsCommand law (run .row) (c .bytes))
-command-of-decision-asked-copied N law t e h run c p =
+pub command-of-decision-asked-copied : EveryGroup (λ N q law. (h : List (Entry Firmware.Handed Areas))
+    (run : Claim.Demand3 (firmware N q law) (lawOf law) (copied N q law) (isOkAt N q law) h) (c : Issued (List ℕ))
+    → In c (after (firmware N q law) (lawOf law) (copied N q law) (isOkAt N q law) h .plain .issued) → HoldsCommand law (run .row) (c .bytes))
+command-of-decision-asked-copied N q law t e h run c p =
     let d = run .decided c p in command-in-words law (run .row) (d .period) (d .from1) (c .bytes) (d .written) (d .bytes)
 
 -- ---- the special case: lists without asks and commits
 
 pub power-special : DemandThree
-power-special N law t e h = special (group N law) (lawOf law) (storage N law) (isOk N law) h (demand-3-asked N law t e (map Unasked h))
+power-special N q law t e h = special (group N q law) (lawOf law) (storage N q law) (isOk N q law) h (demand-3-asked N q law t e (map Unasked h))
 
 pub power-special-copied : DemandThreeCopied
-power-special-copied N law t e h = special (firmware N law) (lawOf law) (copied N law) (isOkAt N law) h (demand-3-asked-copied N law t e (map Unasked h))
+power-special-copied N q law t e h = special (firmware N q law) (lawOf law) (copied N q law) (isOkAt N q law) h (demand-3-asked-copied N q law t e (map Unasked h))
 
 -- ---- what the histories have of an ask
 
@@ -125,6 +125,6 @@ offers {x} {o} {r} {area} {area′} {frame} {frame′} {command} {command′} le
 }
 
 pub asks-mean : AsksMean
-asks-mean N law x e a r area area′ frame′ command′ left long g =
+asks-mean N q law x e a r area area′ frame′ command′ left long g =
     let h = subst (λ (o : Outcomes). Asks x o r area area′ (a .frame) frame′ (a .command) command′) (has-outcome x e a (length area) left long) g in
     (ap isDone (h .answer), offers left h)

@@ -10,6 +10,7 @@ use borrow.Author.Tests.{le-leb}
 use Rattle.lists.proofs.Below.{all-of}
 use Rattle.readings.proofs.Normalised.{normalised-marks, normalised-values}
 use Rattle.scram.specs.Quorum.{among}
+use Rattle.quorums.specs.declared.Quorums.{Quorums}
 use Rattle.law.specs.declared.Settings as Law
 use Rattle.estimate.specs.declared.Estimate.{Estimate}
 use Rattle.estimate.proofs.RoundTrip.{carried-whole}
@@ -39,11 +40,11 @@ heard-ok N heard o = all-of (λ j. not (among heard j) || isBox N j) 10 (λ j _.
     by j true g = is-box N j (g refl)
     by j false g = refl
 
-module _ (N : ℕ) (law : Law.Settings) where
+module _ (N : ℕ) (q : Quorums) (law : Law.Settings) where
   -- ---- settings
 
   -- the tables are those of box 1
-  settings-typed : (i : ℕ) → TypedSettings (settingsOf N law 1) → TypedSettings (settingsOf N law i)
+  settings-typed : (i : ℕ) → TypedSettings (settingsOf N q law 1) → TypedSettings (settingsOf N q law i)
   settings-typed i t = record {
     a-length = t .a-length;
     l-length = t .l-length;
@@ -104,7 +105,7 @@ module _ (N : ℕ) (law : Law.Settings) where
     }
 
   -- a replica of a box of the group, whatever the history
-  pub kept-in-order : TypedSettings (settingsOf N law 1) → (i : ℕ) (c : Replica) → settingsRefusal (settingsOf N law i) ≡ 0 → Kept N law i c → InOrder c
+  pub kept-in-order : TypedSettings (settingsOf N q law 1) → (i : ℕ) (c : Replica) → settingsRefusal (settingsOf N q law i) ≡ 0 → Kept N q law i c → InOrder c
   kept-in-order t i c e k =
       subst InOrder (λ j. record { settings = sym (k .settings) j; held = c .held })
       (record { settings = settings-typed i t; stands = e; held = held-in-order (c .held) (k .typed) (k .ordered) })

@@ -16,6 +16,7 @@ use Rattle.bytes.proofs.Areas.{over-first}
 use Rattle.scram.specs.Answers.{Answered, Done, Ignored, Refused}
 use Rattle.scram.specs.Held.{Input}
 use Rattle.scram.specs.Shown.{isRefused}
+use Rattle.quorums.specs.declared.Quorums.{Quorums}
 use Rattle.law.specs.declared.Settings as Law
 use Rattle.replica.specs.declared.Replica.{Replica}
 use Rattle.replica.specs.Settings.{settingsRefusal}
@@ -65,7 +66,7 @@ written-there bytes count area area′ q z = record {
 }
 
 pub steps-mean : StepsMean
-steps-mean N law b x a number b′ lengths frame′ command′ g = record {
+steps-mean N q law b x a number b′ lengths frame′ command′ g = record {
   replica = g .replica;
   refused = ap refusalNumber (g .answer) ∙ by-number (stepAt b (λ r. outcomeAt r x a) .answer) (step-numbered b x a);
   frame-written = written-there _ _ (a .frame) frame′ (ap (λ l. getD l 0 0) (g .written)) (g .frame-bytes);
@@ -78,74 +79,74 @@ steps-mean N law b x a number b′ lengths frame′ command′ g = record {
 over-all : (bytes area : List ℕ) → length area ≡ recordLength → length bytes ≡ recordLength → over bytes area ≡ bytes
 over-all bytes area p q = ap (λ l. bytes ++ l) (drop-beyond area (length bytes) (omega arith)) ∙ append-nil bytes
 
-module _ (N : ℕ) (law : Law.Settings) (t : TypedSettings (settingsOf N law 1)) (e : settingsRefusal (settingsOf N law 1) ≡ 0) where
-  module _ (i : ℕ) (stands : settingsRefusal (settingsOf N law i) ≡ 0) where
+module _ (N : ℕ) (q : Quorums) (law : Law.Settings) (t : TypedSettings (settingsOf N q law 1)) (e : settingsRefusal (settingsOf N q law 1) ≡ 0) where
+  module _ (i : ℕ) (stands : settingsRefusal (settingsOf N q law i) ≡ 0) where
     -- a box of the group has a record
-    written-in : (b : List ℕ) → KeptIn N law t e i b → Written N law t e i b
+    written-in : (b : List ℕ) → KeptIn N q law t e i b → Written N q law t e i b
     written-in b (inl w) = w
     written-in b (inr f) = absurd (f .refused stands)
 
-    kept-record : (c : Replica) → Kept N law i c → isRecord (recordBytes c) ≡ true
-    kept-record c k = recorded-is-record c (in-order N law t e i stands c k)
+    kept-record : (c : Replica) → Kept N q law i c → isRecord (recordBytes c) ≡ true
+    kept-record c k = recorded-is-record c (in-order N q law t e i stands c k)
 
     -- what an area of it holds, and what is stored of that
-    in-record : (b : List ℕ) → Written N law t e i b → isRecord b ≡ true
+    in-record : (b : List ℕ) → Written N q law t e i b → isRecord b ≡ true
     in-record b w = ap isRecord (w .same) ∙ kept-record (w .replica) (w .kept)
 
-    recording-is : (b : List ℕ) → Written N law t e i b → recording b recordLength ≡ b
+    recording-is : (b : List ℕ) → Written N q law t e i b → recording b recordLength ≡ b
     recording-is b w =
         ap (λ b. recording b recordLength) (w .same)
-        ∙ recording-same N law t e (w .replica) (in-order N law t e i stands (w .replica) (w .kept))
+        ∙ recording-same N q law t e (w .replica) (in-order N q law t e i stands (w .replica) (w .kept))
         ∙ sym (w .same)
 
-    returned-length : (k : ℕ) (b : List ℕ) → Written N law t e i b → eqb (returningRefusal k b recordLength) 0 ≡ true
+    returned-length : (k : ℕ) (b : List ℕ) → Written N q law t e i b → eqb (returningRefusal k b recordLength) 0 ≡ true
         → length (returning k b recordLength) ≡ recordLength
     returned-length k b w z =
-        let r = ap replicaIn (w .same) ∙ recorded-read (w .replica) (in-order N law t e i stands (w .replica) (w .kept)) in
+        let r = ap replicaIn (w .same) ∙ recorded-read (w .replica) (in-order N q law t e i stands (w .replica) (w .kept)) in
         ap length (returning-bytes k b z ∙ ap (λ c. recordBytes (stayedUp k c)) r)
-        ∙ record-length _ (kept-record (stayedUp k (w .replica)) (stayed-kept N law t e i stands k (w .replica) (w .kept)))
+        ∙ record-length _ (kept-record (stayedUp k (w .replica)) (stayed-kept N q law t e i stands k (w .replica) (w .kept)))
 
   -- ---- in a history
 
   module _ (h : List (Entry Handed Areas)) (i : ℕ) (from1 : 1 ≤ i) (most : i ≤ N) where
-    stands : settingsRefusal (settingsOf N law i) ≡ 0
-    stands = accepted-each N law e i from1 most
+    stands : settingsRefusal (settingsOf N q law i) ≡ 0
+    stands = accepted-each N q law e i from1 most
 
-    now : Written N law t e i (areaAfter N law h i)
-    now = written-in i stands (areaAfter N law h i) (Power.now-kept (areas N law t e (written N law) (written-returns N law t e)) h i)
+    now : Written N q law t e i (areaAfter N q law h i)
+    now = written-in i stands (areaAfter N q law h i) (Power.now-kept (areas N q law t e (written N q law) (written-returns N q law t e)) h i)
 
-    stored : Written N law t e i (storedAfter N law h i)
+    stored : Written N q law t e i (storedAfter N q law h i)
     stored =
-        let (b, same, k) = Power.stored-kept (areas N law t e (written N law) (written-returns N law t e)) h i in
+        let (b, same, k) = Power.stored-kept (areas N q law t e (written N q law) (written-returns N q law t e)) h i in
         let w = written-in i stands b k in
-        subst (Written N law t e i) (sym (same ∙ recording-is i stands b w)) w
+        subst (Written N q law t e i) (sym (same ∙ recording-is i stands b w)) w
 
 pub are-records : AreRecords
-are-records N law t e h i l m =
-    let s = stands N law t e h i l m in
-    (in-record N law t e i s (areaAfter N law h i) (now N law t e h i l m), in-record N law t e i s (storedAfter N law h i) (stored N law t e h i l m))
+are-records N q law t e h i l m =
+    let s = stands N q law t e h i l m in
+    (in-record N q law t e i s (areaAfter N q law h i) (now N q law t e h i l m), in-record N q law t e i s (storedAfter N q law h i) (stored N q law t e h i l m))
 
 pub making-means : MakingMeans
-making-means N law t e i area l m p =
-    let s = accepted-each N law e i l m in
-    let c = freshOf (settingsOf N law i) in
+making-means N q law t e i area l m p =
+    let s = accepted-each N q law e i l m in
+    let c = freshOf (settingsOf N q law i) in
     ap (λ k. over (recorded c k) area) p
     ∙ over-all (recorded c recordLength) area p
-    (record-length _ (ap isRecord (recorded-bytes c s) ∙ kept-record N law t e i s c (shown N law (t .start) e .freshKept i)))
+    (record-length _ (ap isRecord (recorded-bytes c s) ∙ kept-record N q law t e i s c (shown N q law (t .start) e .freshKept i)))
 
 pub recording-means : RecordingMeans
-recording-means N law t e h i area l m p =
-    let s = stands N law t e h i l m in
-    let w = now N law t e h i l m in
-    let b = areaAfter N law h i in
+recording-means N q law t e h i area l m p =
+    let s = stands N q law t e h i l m in
+    let w = now N q law t e h i l m in
+    let b = areaAfter N q law h i in
     ap (λ k. over (recording b k) area) p
-    ∙ over-all (recording b recordLength) area p (ap length (recording-is N law t e i s b w) ∙ record-length b (in-record N law t e i s b w))
+    ∙ over-all (recording b recordLength) area p (ap length (recording-is N q law t e i s b w) ∙ record-length b (in-record N q law t e i s b w))
 
 pub returning-means : ReturningMeans
-returning-means N law t e h i k area l m p z =
-    let s = stands N law t e h i l m in
-    let w = stored N law t e h i l m in
-    let b = storedAfter N law h i in
+returning-means N q law t e h i k area l m p z =
+    let s = stands N q law t e h i l m in
+    let w = stored N q law t e h i l m in
+    let b = storedAfter N q law h i in
     let y = eq-eqb (returningRefusal k b recordLength) 0 (ap (returningRefusal k b) (sym p) ∙ z) in
     pick-true _ _ _ y
-    ∙ ap some (sym (over-all (returning k b recordLength) area p (returned-length N law t e i s k b w y)) ∙ ap (λ n. over (returning k b n) area) (sym p))
+    ∙ ap some (sym (over-all (returning k b recordLength) area p (returned-length N q law t e i s k b w y)) ∙ ap (λ n. over (returning k b n) area) (sym p))

@@ -24,6 +24,7 @@ use Rattle.transmitters.specs.Numbers.{readingOf, readingsOf}
 use Rattle.scram.specs.Held.{Held, Message, Group, Input, Tick, Arrival, GiveUp, fresh}
 use Rattle.scram.specs.History.{Result}
 use Rattle.scram.specs.Shown.{isRefused, Still, inBytes, outcome, Arrives, Does, Shown}
+use Rattle.quorums.specs.declared.Quorums.{Quorums}
 use Rattle.law.specs.declared.Settings as Law
 use Rattle.frame.specs.Lengths.{longestFrame, longestCommand}
 use Rattle.replica.specs.declared.Settings.{Settings}
@@ -91,11 +92,11 @@ no-row = refl
 abbrev onto : Result Replica → Result (List ℕ)
 onto r = record { box = recordBytes (r .box); refused = r .refused; frame = r .frame; command = r .command }
 
-module _ (N : ℕ) (law : Law.Settings) (c : Replica) (o : InOrder c) where
+module _ (N : ℕ) (q : Quorums) (law : Law.Settings) (c : Replica) (o : InOrder c) where
   abbrev bytes : List ℕ
   bytes = recordBytes c
 
-  holds : firmware N law .held bytes ≡ heldIn (c .held)
+  holds : firmware N q law .held bytes ≡ heldIn (c .held)
   holds = pick-true _ _ _ (recorded-is-record c o) ∙ ap (λ (r : Replica). heldIn (r .held)) (recorded-read c o)
 
   settings-in : settingsIn bytes ≡ c .settings
@@ -134,20 +135,20 @@ no-record-still b step f =
     subst (λ (o : Outcomes). Still b (resultAt b o)) (sym (pick-false _ _ _ f))
     (record { box = pick-false _ _ _ refl; refused = refl; frame = refl; command = refl })
 
-module _ (N : ℕ) (law : Law.Settings) (t : TypedSettings (settingsOf N law 1)) (e : settingsRefusal (settingsOf N law 1) ≡ 0) where
+module _ (N : ℕ) (q : Quorums) (law : Law.Settings) (t : TypedSettings (settingsOf N q law 1)) (e : settingsRefusal (settingsOf N q law 1) ≡ 0) where
   abbrev G : Group
-  G = groupOf (memberOf (settingsOf N law 1))
+  G = groupOf (memberOf (settingsOf N q law 1))
 
   -- the area of a box of the group: the record of a replica of a history
   pub record Written (i : ℕ) (b : List ℕ) : Type 0 where
     pub replica : Replica
     pub same : b ≡ recordBytes replica
-    pub kept : Kept N law i replica
-    pub stands : settingsRefusal (settingsOf N law i) ≡ 0
+    pub kept : Kept N q law i replica
+    pub stands : settingsRefusal (settingsOf N q law i) ≡ 0
 
   -- any other box has no record
   pub record Elsewhere (i : ℕ) (b : List ℕ) : Type 0 where
-    pub refused : settingsRefusal (settingsOf N law i) ≡ 0 → ⊥
+    pub refused : settingsRefusal (settingsOf N q law i) ≡ 0 → ⊥
     pub none-there : isRecord b ≡ false
 
   abbrev pub KeptIn : ℕ → List ℕ → Type 0
@@ -157,119 +158,119 @@ module _ (N : ℕ) (law : Law.Settings) (t : TypedSettings (settingsOf N law 1))
 
   -- a call at box i whose result is r shows the step o of what is held, or does nothing
   abbrev Shows : ℕ → List ℕ → (Held (List ℤ) Readings → Outcomes) → Result (List ℕ) → Type 0
-  Shows i b o r = Does (firmware N law) KeptIn (Carried law) i (o (firmware N law .held b)) r ⊎ Still b r
+  Shows i b o r = Does (firmware N q law) KeptIn (Carried law) i (o (firmware N q law .held b)) r ⊎ Still b r
 
-  module _ (i : ℕ) (stands : settingsRefusal (settingsOf N law i) ≡ 0) where
-    pub in-order : (c : Replica) → Kept N law i c → InOrder c
-    in-order c k = kept-in-order N law t i c stands k
+  module _ (i : ℕ) (stands : settingsRefusal (settingsOf N q law i) ≡ 0) where
+    pub in-order : (c : Replica) → Kept N q law i c → InOrder c
+    in-order c k = kept-in-order N q law t i c stands k
 
     -- the replica's result, with the record
-    onto-shows : (c : Replica) (p : Outcomes) (r : Result Replica) → Does (group N law) (Kept N law) (Carried law) i p r ⊎ Still c r
-        → Does (firmware N law) KeptIn (Carried law) i p (onto r) ⊎ Still (recordBytes c) (onto r)
-    onto-shows c p r (inl q) = inl (record {
-      kept = inl (record { replica = r .box; same = refl; kept = q .kept; stands = stands });
-      held = holds N law (r .box) (in-order (r .box) (q .kept)) ∙ q .held;
-      refused = q .refused;
-      frame = q .frame;
-      command = q .command;
+    onto-shows : (c : Replica) (p : Outcomes) (r : Result Replica) → Does (group N q law) (Kept N q law) (Carried law) i p r ⊎ Still c r
+        → Does (firmware N q law) KeptIn (Carried law) i p (onto r) ⊎ Still (recordBytes c) (onto r)
+    onto-shows c p r (inl d) = inl (record {
+      kept = inl (record { replica = r .box; same = refl; kept = d .kept; stands = stands });
+      held = holds N q law (r .box) (in-order (r .box) (d .kept)) ∙ d .held;
+      refused = d .refused;
+      frame = d .frame;
+      command = d .command;
     })
-    onto-shows c p r (inr q) = inr (record { box = ap recordBytes (q .box); refused = q .refused; frame = q .frame; command = q .command })
+    onto-shows c p r (inr d) = inr (record { box = ap recordBytes (d .box); refused = d .refused; frame = d .frame; command = d .command })
 
     -- a call on the record of a replica shows what the replica's call shows
-    record-shows : (c : Replica) → Kept N law i c → (step : Replica → Outcomes) (o : Held (List ℤ) Readings → Outcomes) → QuietCall c (step c)
-        → Does (group N law) (Kept N law) (Carried law) i (o (heldIn (c .held))) (resultOf (c .settings) (step c)) ⊎ Still c (resultOf (c .settings) (step c))
+    record-shows : (c : Replica) → Kept N q law i c → (step : Replica → Outcomes) (o : Held (List ℤ) Readings → Outcomes) → QuietCall c (step c)
+        → Does (group N q law) (Kept N q law) (Carried law) i (o (heldIn (c .held))) (resultOf (c .settings) (step c)) ⊎ Still c (resultOf (c .settings) (step c))
         → Shows i (recordBytes c) o (resultAt (recordBytes c) (stepAt (recordBytes c) step))
-    record-shows c k step o q d =
+    record-shows c k step o quiet d =
         let w = in-order c k in
-        subst (Shows i (recordBytes c) o) (sym (result-at N law c w step q))
-        (subst (λ h. Does (firmware N law) KeptIn (Carried law) i (o h) (onto (resultOf (c .settings) (step c))) ⊎ Still (recordBytes c) (onto (resultOf (c .settings) (step c))))
-        (sym (holds N law c w)) (onto-shows c (o (heldIn (c .held))) (resultOf (c .settings) (step c)) d))
+        subst (Shows i (recordBytes c) o) (sym (result-at N q law c w step quiet))
+        (subst (λ h. Does (firmware N q law) KeptIn (Carried law) i (o h) (onto (resultOf (c .settings) (step c))) ⊎ Still (recordBytes c) (onto (resultOf (c .settings) (step c))))
+        (sym (holds N q law c w)) (onto-shows c (o (heldIn (c .held))) (resultOf (c .settings) (step c)) d))
 
-    replica-calls : (c : Replica) (x : Input Handed (Message (List ℤ) Readings)) (a : Areas) → Kept N law i c → Arrives (firmware N law) (Carried law) x
-        → Shows i (recordBytes c) (λ h. outcome (firmware N law) (lawOf law) G i h x) (firmware N law .call (recordBytes c) (inBytes (firmware N law) x) a)
+    replica-calls : (c : Replica) (x : Input Handed (Message (List ℤ) Readings)) (a : Areas) → Kept N q law i c → Arrives (firmware N q law) (Carried law) x
+        → Shows i (recordBytes c) (λ h. outcome (firmware N q law) (lawOf law) G i h x) (firmware N q law .call (recordBytes c) (inBytes (firmware N q law) x) a)
     replica-calls c (Tick y) a k w =
-        record-shows c k (λ r. outcomeAt r (Tick y) a) (λ h. outcome (firmware N law) (lawOf law) G i h (Tick y)) (outcome-quiet c (Tick y) a)
-        (shown N law (t .start) e .calls i c (Tick (readingsIn y)) a k tt)
+        record-shows c k (λ r. outcomeAt r (Tick y) a) (λ h. outcome (firmware N q law) (lawOf law) G i h (Tick y)) (outcome-quiet c (Tick y) a)
+        (shown N q law (t .start) e .calls i c (Tick (readingsIn y)) a k tt)
     replica-calls c (Arrival m) a k w =
-        record-shows c k (λ r. outcomeAt r (Arrival (firmware N law .frameBytes m)) a) (λ h. outcome (firmware N law) (lawOf law) G i h (Arrival m))
-        (outcome-quiet c (Arrival (firmware N law .frameBytes m)) a) (shown N law (t .start) e .calls i c (Arrival m) a k w)
+        record-shows c k (λ r. outcomeAt r (Arrival (firmware N q law .frameBytes m)) a) (λ h. outcome (firmware N q law) (lawOf law) G i h (Arrival m))
+        (outcome-quiet c (Arrival (firmware N q law .frameBytes m)) a) (shown N q law (t .start) e .calls i c (Arrival m) a k w)
     replica-calls c GiveUp a k w =
-        record-shows c k (λ r. outcomeAt r GiveUp a) (λ h. outcome (firmware N law) (lawOf law) G i h GiveUp) (outcome-quiet c GiveUp a)
-        (shown N law (t .start) e .calls i c GiveUp a k tt)
+        record-shows c k (λ r. outcomeAt r GiveUp a) (λ h. outcome (firmware N q law) (lawOf law) G i h GiveUp) (outcome-quiet c GiveUp a)
+        (shown N q law (t .start) e .calls i c GiveUp a k tt)
 
-  calls : (i : ℕ) (b : List ℕ) (x : Input Handed (Message (List ℤ) Readings)) (a : Areas) → KeptIn i b → Arrives (firmware N law) (Carried law) x
-      → Shows i b (λ h. outcome (firmware N law) (lawOf law) G i h x) (firmware N law .call b (inBytes (firmware N law) x) a)
+  calls : (i : ℕ) (b : List ℕ) (x : Input Handed (Message (List ℤ) Readings)) (a : Areas) → KeptIn i b → Arrives (firmware N q law) (Carried law) x
+      → Shows i b (λ h. outcome (firmware N q law) (lawOf law) G i h x) (firmware N q law .call b (inBytes (firmware N q law) x) a)
   calls i b x a (inl k) w =
-      subst (λ b. Shows i b (λ h. outcome (firmware N law) (lawOf law) G i h x) (firmware N law .call b (inBytes (firmware N law) x) a)) (sym (k .same))
+      subst (λ b. Shows i b (λ h. outcome (firmware N q law) (lawOf law) G i h x) (firmware N q law .call b (inBytes (firmware N q law) x) a)) (sym (k .same))
       (replica-calls i (k .stands) (k .replica) x a (k .kept) w)
-  calls i b x a (inr f) w = inr (no-record-still b (λ r. outcomeAt r (inBytes (firmware N law) x) a) (f .none-there))
+  calls i b x a (inr f) w = inr (no-record-still b (λ r. outcomeAt r (inBytes (firmware N q law) x) a) (f .none-there))
 
   -- ---- fresh boxes
 
   module _ (i : ℕ) where
     abbrev freshReplica : Replica
-    freshReplica = freshOf (settingsOf N law i)
+    freshReplica = freshOf (settingsOf N q law i)
 
     -- what holds of the record of a fresh replica, and where there is none, holds of what making writes
-    made-ok : (P : List ℕ → Type 0) → (settingsRefusal (settingsOf N law i) ≡ 0 → P (recordBytes freshReplica)) → ((b : List ℕ) → Elsewhere i b → P b)
-        → P (firmware N law .fresh i)
-    made-ok P f g = by (eqb (settingsRefusal (settingsOf N law i)) 0) refl
+    made-ok : (P : List ℕ → Type 0) → (settingsRefusal (settingsOf N q law i) ≡ 0 → P (recordBytes freshReplica)) → ((b : List ℕ) → Elsewhere i b → P b)
+        → P (firmware N q law .fresh i)
+    made-ok P f g = by (eqb (settingsRefusal (settingsOf N q law i)) 0) refl
       where
-        by : (b : Bool) → eqb (settingsRefusal (settingsOf N law i)) 0 ≡ b → P (recorded freshReplica recordLength)
-        by true z = let s = eqb-true (settingsRefusal (settingsOf N law i)) 0 z in subst P (sym (recorded-bytes freshReplica s)) (f s)
+        by : (b : Bool) → eqb (settingsRefusal (settingsOf N q law i)) 0 ≡ b → P (recorded freshReplica recordLength)
+        by true z = let s = eqb-true (settingsRefusal (settingsOf N q law i)) 0 z in subst P (sym (recorded-bytes freshReplica s)) (f s)
         by false z =
-            let n = eqb-false (settingsRefusal (settingsOf N law i)) 0 z in
+            let n = eqb-false (settingsRefusal (settingsOf N q law i)) 0 z in
             g (recorded freshReplica recordLength) (record { refused = n; none-there = recorded-none freshReplica n })
 
-    fresh-kept : KeptIn i (firmware N law .fresh i)
+    fresh-kept : KeptIn i (firmware N q law .fresh i)
     fresh-kept =
-        made-ok (KeptIn i) (λ s. inl (record { replica = freshReplica; same = refl; kept = shown N law (t .start) e .freshKept i; stands = s })) (λ _ f. inr f)
+        made-ok (KeptIn i) (λ s. inl (record { replica = freshReplica; same = refl; kept = shown N q law (t .start) e .freshKept i; stands = s })) (λ _ f. inr f)
 
-    fresh-held : firmware N law .held (firmware N law .fresh i) ≡ fresh (lawOf law)
+    fresh-held : firmware N q law .held (firmware N q law .fresh i) ≡ fresh (lawOf law)
     fresh-held =
-        made-ok (λ b. firmware N law .held b ≡ fresh (lawOf law))
-        (λ s. holds N law freshReplica (in-order i s freshReplica (shown N law (t .start) e .freshKept i))) (λ b f. pick-false _ _ _ (f .none-there))
+        made-ok (λ b. firmware N q law .held b ≡ fresh (lawOf law))
+        (λ s. holds N q law freshReplica (in-order i s freshReplica (shown N q law (t .start) e .freshKept i))) (λ b f. pick-false _ _ _ (f .none-there))
 
-  pub firmware-shown : Shown (firmware N law) KeptIn (Carried law) (lawOf law) G
-  firmware-shown = record { freshKept = fresh-kept; freshHeld = fresh-held; calls = calls; periodRead = shown N law (t .start) e .periodRead }
+  pub firmware-shown : Shown (firmware N q law) KeptIn (Carried law) (lawOf law) G
+  firmware-shown = record { freshKept = fresh-kept; freshHeld = fresh-held; calls = calls; periodRead = shown N q law (t .start) e .periodRead }
 
   -- ---- returning
 
-  module _ (i : ℕ) (stands : settingsRefusal (settingsOf N law i) ≡ 0) where
-    call-kept : (c : Replica) (p : Outcomes) (r : Result Replica) → Kept N law i c → Does (group N law) (Kept N law) (Carried law) i p r ⊎ Still c r
-        → Kept N law i (r .box)
-    call-kept c p r k (inl q) = q .kept
-    call-kept c p r k (inr q) = subst (Kept N law i) (sym (q .box)) k
+  module _ (i : ℕ) (stands : settingsRefusal (settingsOf N q law i) ≡ 0) where
+    call-kept : (c : Replica) (p : Outcomes) (r : Result Replica) → Kept N q law i c → Does (group N q law) (Kept N q law) (Carried law) i p r ⊎ Still c r
+        → Kept N q law i (r .box)
+    call-kept c p r k (inl d) = d .kept
+    call-kept c p r k (inr d) = subst (Kept N q law i) (sym (d .box)) k
 
     -- a missed tick keeps what the calls keep
-    missed-kept : (c : Replica) → Kept N law i c → Kept N law i (afterMissed c)
+    missed-kept : (c : Replica) → Kept N q law i c → Kept N q law i (afterMissed c)
     missed-kept c k =
-        subst (λ (r : Result Replica). Kept N law i (r .box)) (missed-call N law c)
-        (call-kept c _ _ k (shown N law (t .start) e .calls i c (Tick Replicas.absent) areas k tt))
+        subst (λ (r : Result Replica). Kept N q law i (r .box)) (missed-call N q law c)
+        (call-kept c _ _ k (shown N q law (t .start) e .calls i c (Tick Replicas.absent) areas k tt))
 
-    pub stayed-kept : (k : ℕ) (c : Replica) → Kept N law i c → Kept N law i (stayedUp k c)
+    pub stayed-kept : (k : ℕ) (c : Replica) → Kept N q law i c → Kept N q law i (stayedUp k c)
     unfolding stayedUp
     stayed-kept zero c h = h
     stayed-kept (suc k) c h = stayed-kept k (afterMissed c) (missed-kept c h)
 
-    missed-at : (c : Replica) → Kept N law i c → firmware N law .call (recordBytes c) (Tick absent) areas ≡ onto (resultOf (c .settings) (missedTick c))
+    missed-at : (c : Replica) → Kept N q law i c → firmware N q law .call (recordBytes c) (Tick absent) areas ≡ onto (resultOf (c .settings) (missedTick c))
     missed-at c k =
-        result-at N law c (in-order i stands c k) (λ r. outcomeAt r (Tick absent) areas) (outcome-quiet c (Tick absent) areas)
+        result-at N q law c (in-order i stands c k) (λ r. outcomeAt r (Tick absent) areas) (outcome-quiet c (Tick absent) areas)
         ∙ ap (λ (y : Readings). onto (resultOf (c .settings) (tickOutcome c y longestFrame longestCommand))) no-row
 
     -- a box that stayed up
-    stays : (k : ℕ) (c : Replica) → Kept N law i c → passesLargest k c ≡ false
-        → missed (firmware N law) absent areas k (recordBytes c) ≡ some (recordBytes (stayedUp k c))
+    stays : (k : ℕ) (c : Replica) → Kept N q law i c → passesLargest k c ≡ false
+        → missed (firmware N q law) absent areas k (recordBytes c) ≡ some (recordBytes (stayedUp k c))
     unfolding missed passesLargest stayedUp
     stays zero c h z = refl
     stays (suc k) c h z =
         let p = neither (isRefused (missedTick c .answer)) (passesLargest k (afterMissed c)) z in
-        ap (λ (w : Result (List ℕ)). pick (w .refused) none (missed (firmware N law) absent areas k (w .box))) (missed-at c h)
+        ap (λ (w : Result (List ℕ)). pick (w .refused) none (missed (firmware N q law) absent areas k (w .box))) (missed-at c h)
         ∙ pick-false _ _ _ (p .0)
         ∙ stays k (afterMissed c) (missed-kept c h) (p .1)
 
-    back : (c : Replica) (k : ℕ) → Kept N law i c → eqb (returningRefusal k (recordBytes c) recordLength) 0 ≡ true
-        → some (returning k (recordBytes c) recordLength) ≡ missed (firmware N law) absent areas k (recordBytes c)
+    back : (c : Replica) (k : ℕ) → Kept N q law i c → eqb (returningRefusal k (recordBytes c) recordLength) 0 ≡ true
+        → some (returning k (recordBytes c) recordLength) ≡ missed (firmware N q law) absent areas k (recordBytes c)
     back c k h z =
         let r = recorded-read c (in-order i stands c h) in
         ap some (returning-bytes k (recordBytes c) z ∙ ap (λ x. recordBytes (stayedUp k x)) r)
@@ -283,19 +284,19 @@ module _ (N : ℕ) (law : Law.Settings) (t : TypedSettings (settingsOf N law 1))
   module _ (stored : List ℕ → List ℕ) (s : Stores stored) where
     abbrev Backs : List ℕ → ℕ → List ℕ → Type 0
     Backs b k from =
-        (storing N law stored .back from k ≡ none) ⊎ (storing N law stored .back from k ≡ missed (firmware N law) absent areas k b)
+        (storing N q law stored .back from k ≡ none) ⊎ (storing N q law stored .back from k ≡ missed (firmware N q law) absent areas k b)
 
-    record-backs : (i : ℕ) (c : Replica) (k : ℕ) → settingsRefusal (settingsOf N law i) ≡ 0 → Kept N law i c → Backs (recordBytes c) k (stored (recordBytes c))
+    record-backs : (i : ℕ) (c : Replica) (k : ℕ) → settingsRefusal (settingsOf N q law i) ≡ 0 → Kept N q law i c → Backs (recordBytes c) k (stored (recordBytes c))
     record-backs i c k stands h =
         subst (Backs (recordBytes c) k) (sym (s .same c (in-order i stands c h)))
-        (pick-holds (λ x. (x ≡ none) ⊎ (x ≡ missed (firmware N law) absent areas k (recordBytes c))) (eqb (returningRefusal k (recordBytes c) recordLength) 0)
+        (pick-holds (λ x. (x ≡ none) ⊎ (x ≡ missed (firmware N q law) absent areas k (recordBytes c))) (eqb (returningRefusal k (recordBytes c) recordLength) 0)
         _ _ (λ z. inr (back i stands c k h z)) (λ _. inl refl))
 
     backs : (i : ℕ) (b : List ℕ) (k : ℕ) → KeptIn i b → Backs b k (stored b)
     backs i b k (inl w) = subst (λ b. Backs b k (stored b)) (sym (w .same)) (record-backs i (w .replica) k (w .stands) (w .kept))
     backs i b k (inr f) = inl (pick-false _ _ _ (returning-15 k (stored b) (s .none-there b (f .none-there))))
 
-    returns : Returns (firmware N law) KeptIn (lawOf law) (storing N law stored)
+    returns : Returns (firmware N q law) KeptIn (lawOf law) (storing N q law stored)
     returns = record {
       absent = absent;
       areas = areas;
@@ -307,9 +308,9 @@ module _ (N : ℕ) (law : Law.Settings) (t : TypedSettings (settingsOf N law 1))
   pub recording-same : (c : Replica) → InOrder c → recording (recordBytes c) recordLength ≡ recordBytes c
   recording-same c o = recording-done (recordBytes c) (recorded-is-record c o) ∙ ap recordBytes (recorded-read c o)
 
-  pub written-returns : Returns (firmware N law) KeptIn (lawOf law) (written N law)
+  pub written-returns : Returns (firmware N q law) KeptIn (lawOf law) (written N q law)
   written-returns = returns (λ b. recording b recordLength) (record { same = recording-same; none-there = recording-none })
 
   -- by a copy
-  pub copied-returns : Returns (firmware N law) KeptIn (lawOf law) (copied N law)
+  pub copied-returns : Returns (firmware N q law) KeptIn (lawOf law) (copied N q law)
   copied-returns = returns (λ b. b) (record { same = λ c o. refl; none-there = λ b f. f })

@@ -6,12 +6,13 @@ use lib.IntN.{ℤ}
 use Rattle.readings.specs.declared.Readings.{Readings}
 use Rattle.scram.specs.Held.{Group}
 use Rattle.scram.specs.History.{Issued, In}
-use Rattle.scram.proofs.Boxes.{two-majorities}
+use Rattle.quorums.specs.declared.Quorums.{Quorums}
 use Rattle.law.specs.declared.Settings as Law
 use Rattle.law.specs.declared.Marked.{Marked}
 use Rattle.frame.specs.Command.{commandPeriod}
 use Rattle.replica.specs.declared.Replica.{Replica}
 use Rattle.replica.specs.Settings.{settingsRefusal, lawOf, memberOf, groupOf}
+use Rattle.replica.proofs.Accepted.{overlap}
 use Rattle.records.specs.InOrder.{TypedSettings}
 use Rattle.group.specs.Group.{Areas, settingsOf, group}
 use Rattle.group.specs.Group as Group
@@ -32,33 +33,33 @@ use Rattle.recovery.specs.ComesBack.{replicaAfter, ComesBack, ComesBackS
 use Rattle.recovery.proofs.Replicas as Replicas
 use Rattle.recovery.proofs.OnRecords.{KeptIn, firmware-shown, written-returns, copied-returns}
 
-module _ (N : ℕ) (law : Law.Settings) (t : TypedSettings (settingsOf N law 1)) (e : settingsRefusal (settingsOf N law 1) ≡ 0) where
+module _ (N : ℕ) (q : Quorums) (law : Law.Settings) (t : TypedSettings (settingsOf N q law 1)) (e : settingsRefusal (settingsOf N q law 1) ≡ 0) where
   abbrev G : Group
-  G = groupOf (memberOf (settingsOf N law 1))
+  G = groupOf (memberOf (settingsOf N q law 1))
 
   -- replicas with their records
   abbrev pub replicas : Premises (List ℤ) Readings Marked
   replicas = record {
-    system = group N law;
-    Kept = Kept N law;
+    system = group N q law;
+    Kept = Kept N q law;
     Carried = Carried law;
     law = lawOf law;
     group = G;
-    shown = shown N law (t .start) e;
-    storage = storage N law;
-    returns = Replicas.returns N law t;
+    shown = shown N q law (t .start) e;
+    storage = storage N q law;
+    returns = Replicas.returns N q law t;
   }
 
   -- the C firmware's areas
-  abbrev pub areas : (storage : Storage (firmware N law)) → Returns (firmware N law) (KeptIn N law t e) (lawOf law) storage
+  abbrev pub areas : (storage : Storage (firmware N q law)) → Returns (firmware N q law) (KeptIn N q law t e) (lawOf law) storage
       → Premises (List ℤ) Readings Marked
   areas storage returns = record {
-    system = firmware N law;
-    Kept = KeptIn N law t e;
+    system = firmware N q law;
+    Kept = KeptIn N q law t e;
     Carried = Carried law;
     law = lawOf law;
     group = G;
-    shown = firmware-shown N law t e;
+    shown = firmware-shown N q law t e;
     storage = storage;
     returns = returns;
   }
@@ -67,43 +68,43 @@ module _ (N : ℕ) (law : Law.Settings) (t : TypedSettings (settingsOf N law 1))
 
 -- of replicas with their records
 pub demand-3 : DemandThree
-demand-3 N law t e = Power.for-premises (replicas N law t e) (two-majorities N)
+demand-3 N q law t e = Power.for-premises (replicas N q law t e) (overlap (settingsOf N q law 1) e)
 
 -- of the C firmware's areas, stored by `winder_record`
 pub demand-3-written : DemandThreeWritten
-demand-3-written N law t e = Power.for-premises (areas N law t e (written N law) (written-returns N law t e)) (two-majorities N)
+demand-3-written N q law t e = Power.for-premises (areas N q law t e (written N q law) (written-returns N q law t e)) (overlap (settingsOf N q law 1) e)
 
 -- of the C firmware's areas, copied
 pub demand-3-copied : DemandThreeCopied
-demand-3-copied N law t e = Power.for-premises (areas N law t e (copied N law) (copied-returns N law t e)) (two-majorities N)
+demand-3-copied N q law t e = Power.for-premises (areas N q law t e (copied N q law) (copied-returns N q law t e)) (overlap (settingsOf N q law 1) e)
 
 -- ---- all commands of one period that left, which their bytes have, are alike to the last byte
 
-pub commands-alike : EveryGroup (λ N law. (h : List (Entry Group.Handed Areas)) (c d : Issued Replica)
-    → In c (after (group N law) (lawOf law) (storage N law) h .issued) → In d (after (group N law) (lawOf law) (storage N law) h .issued)
+pub commands-alike : EveryGroup (λ N q law. (h : List (Entry Group.Handed Areas)) (c d : Issued Replica)
+    → In c (after (group N q law) (lawOf law) (storage N q law) h .issued) → In d (after (group N q law) (lawOf law) (storage N q law) h .issued)
     → commandPeriod (c .bytes) ≡ commandPeriod (d .bytes) → c .bytes ≡ d .bytes)
-commands-alike N law t e h = Power.commands-alike (group N law) (lawOf law) (storage N law) h (demand-3 N law t e h)
+commands-alike N q law t e h = Power.commands-alike (group N q law) (lawOf law) (storage N q law) h (demand-3 N q law t e h)
 
-pub commands-alike-written : EveryGroup (λ N law. (h : List (Entry Firmware.Handed Areas)) (c d : Issued (List ℕ))
-    → In c (after (firmware N law) (lawOf law) (written N law) h .issued) → In d (after (firmware N law) (lawOf law) (written N law) h .issued)
+pub commands-alike-written : EveryGroup (λ N q law. (h : List (Entry Firmware.Handed Areas)) (c d : Issued (List ℕ))
+    → In c (after (firmware N q law) (lawOf law) (written N q law) h .issued) → In d (after (firmware N q law) (lawOf law) (written N q law) h .issued)
     → commandPeriod (c .bytes) ≡ commandPeriod (d .bytes) → c .bytes ≡ d .bytes)
-commands-alike-written N law t e h = Power.commands-alike (firmware N law) (lawOf law) (written N law) h (demand-3-written N law t e h)
+commands-alike-written N q law t e h = Power.commands-alike (firmware N q law) (lawOf law) (written N q law) h (demand-3-written N q law t e h)
 
 -- ---- the special case
 
 -- the base's demand 3: no box returns, and everything is stored and leaves at once
 pub base-special : DemandThreePlain
-base-special N law t e h = special (group N law) (lawOf law) (storage N law) h (demand-3 N law t e (plainly 0 h))
+base-special N q law t e h = special (group N q law) (lawOf law) (storage N q law) h (demand-3 N q law t e (plainly 0 h))
 
 pub base-special-firmware : DemandThreePlainFirmware
-base-special-firmware N law t e h = special (firmware N law) (lawOf law) (written N law) h (demand-3-written N law t e (plainly 0 h))
+base-special-firmware N q law t e h = special (firmware N q law) (lawOf law) (written N q law) h (demand-3-written N q law t e (plainly 0 h))
 
 -- ---- coming back
 
 pub comes-back : ComesBack
-comes-back N law t e h i k l m =
-    Replicas.comes-back N law t i (replicaAfter N law h i) k (Power.now-kept (replicas N law t e) h i) (accepted-each N law e i l m)
+comes-back N q law t e h i k l m =
+    Replicas.comes-back N q law t i (replicaAfter N q law h i) k (Power.now-kept (replicas N q law t e) h i) (accepted-each N q law e i l m)
 
 pub comes-back-same : ComesBackSame
-comes-back-same N law t e h i l m =
-    Replicas.comes-back-same N law t i (replicaAfter N law h i) (Power.now-kept (replicas N law t e) h i) (accepted-each N law e i l m)
+comes-back-same N q law t e h i l m =
+    Replicas.comes-back-same N q law t i (replicaAfter N q law h i) (Power.now-kept (replicas N q law t e) h i) (accepted-each N q law e i l m)

@@ -8,6 +8,7 @@ use lib.ListN.{length}
 use Rattle.scram.specs.Answers.{answered}
 use Rattle.scram.specs.Held.{Input}
 use Rattle.scram.specs.History.{Result}
+use Rattle.quorums.specs.declared.Quorums.{Quorums}
 use Rattle.law.specs.declared.Settings as Law
 use Rattle.replica.specs.declared.Replica.{Replica}
 use Rattle.replica.specs.Settings.{lawOf}
@@ -30,30 +31,30 @@ use Rattle.recovery.specs.Firmware.{outcomeAt, firmware, written, copied
 use Rattle.recovery.specs.Firmware as Firmware
 use Rattle.recovery.specs.Demand3.{EveryGroup}
 
-module _ (N : ℕ) (law : Law.Settings) where
+module _ (N : ℕ) (q : Quorums) (law : Law.Settings) where
   -- whether the answer of a call is ok, at a replica
-  abbrev pub isOk : Answering (group N law)
+  abbrev pub isOk : Answering (group N q law)
   isOk r e a = isDone (outcomeOf r e a .answer)
 
   -- and at an area of the C firmware
-  abbrev pub isOkAt : Answering (firmware N law)
+  abbrev pub isOkAt : Answering (firmware N q law)
   isOkAt b e a = isDone (stepAt b (λ r. outcomeAt r e a) .answer)
 
 -- ---- the claim
 
 -- any history of replicas with their records, with asks and commits
 abbrev pub DemandThreeAsked : Type 0
-DemandThreeAsked = EveryGroup (λ N law. (h : List (Entry Group.Handed Areas)) → Power.Demand3 (group N law) (lawOf law) (storage N law) (isOk N law) h)
+DemandThreeAsked = EveryGroup (λ N q law. (h : List (Entry Group.Handed Areas)) → Power.Demand3 (group N q law) (lawOf law) (storage N q law) (isOk N q law) h)
 
 -- any history of the C firmware's areas, stored by `winder_record`
 abbrev pub DemandThreeAskedWritten : Type 0
-DemandThreeAskedWritten = EveryGroup (λ N law. (h : List (Entry Firmware.Handed Areas))
-    → Power.Demand3 (firmware N law) (lawOf law) (written N law) (isOkAt N law) h)
+DemandThreeAskedWritten = EveryGroup (λ N q law. (h : List (Entry Firmware.Handed Areas))
+    → Power.Demand3 (firmware N q law) (lawOf law) (written N q law) (isOkAt N q law) h)
 
 -- the same where the areas themselves are stored, or the record that an ask wrote
 abbrev pub DemandThreeAskedCopied : Type 0
-DemandThreeAskedCopied = EveryGroup (λ N law. (h : List (Entry Firmware.Handed Areas))
-    → Power.Demand3 (firmware N law) (lawOf law) (copied N law) (isOkAt N law) h)
+DemandThreeAskedCopied = EveryGroup (λ N q law. (h : List (Entry Firmware.Handed Areas))
+    → Power.Demand3 (firmware N q law) (lawOf law) (copied N q law) (isOkAt N q law) h)
 
 -- ---- what the histories have of an ask is what the call gives
 
@@ -67,8 +68,8 @@ pub record Offers (w : Result Replica) (ok : Type 0) (r : Asked) (area area′ f
 
 -- at any replica with tickets, one of which is left, for any event and any lent areas, the record's being long enough
 abbrev pub AsksMean : Type 0
-AsksMean = (N : ℕ) (law : Law.Settings) (x : Ticketed) (e : Input Group.Handed (List ℕ)) (a : Areas) (r : Asked) (area area′ frame′ command′ : List ℕ)
+AsksMean = (N : ℕ) (q : Quorums) (law : Law.Settings) (x : Ticketed) (e : Input Group.Handed (List ℕ)) (a : Areas) (r : Asked) (area area′ frame′ command′ : List ℕ)
     → isSpent (ticketsOf (x .tickets)) ≡ false → recordLength ≤ length area
     → Asks x (askOutcome x (length area) (outcomeOf (x .replica) e a)) r area area′ (a .frame) frame′ (a .command) command′
-    → (isDone (answered (r .answer)) ≡ isOk N law (x .replica) e a)
-    × Offers (group N law .call (x .replica) e a) (isOk N law (x .replica) e a ≡ true) r area area′ (a .frame) frame′ (a .command) command′
+    → (isDone (answered (r .answer)) ≡ isOk N q law (x .replica) e a)
+    × Offers (group N q law .call (x .replica) e a) (isOk N q law (x .replica) e a ≡ true) r area area′ (a .frame) frame′ (a .command) command′

@@ -7,6 +7,7 @@ use mathlib.Core.Path.{_≡_}
 use mathlib.Core.List.{List}
 use Rattle.scram.specs.History as Base
 use Rattle.scram.specs.Demand3 as BaseClaim
+use Rattle.quorums.specs.declared.Quorums.{Quorums}
 use Rattle.law.specs.declared.Settings as Law
 use Rattle.replica.specs.Settings.{settingsRefusal, lawOf}
 use Rattle.records.specs.InOrder.{TypedSettings}
@@ -18,26 +19,26 @@ use Rattle.recovery.specs.Recorded.{storage}
 use Rattle.recovery.specs.Firmware.{firmware, written, copied}
 use Rattle.recovery.specs.Firmware as Firmware
 
--- What is said of every group: N boxes, a law whose tables are as their types say, settings that making accepts.
-abbrev pub EveryGroup : ((N : ℕ) (law : Law.Settings) → Type 0) → Type 0
-EveryGroup claim = (N : ℕ) (law : Law.Settings) → TypedSettings (settingsOf N law 1) → settingsRefusal (settingsOf N law 1) ≡ 0 → claim N law
+-- What is said of every group: N boxes, any a and b, a law whose tables are as their types say, settings that making accepts.
+abbrev pub EveryGroup : ((N : ℕ) (q : Quorums) (law : Law.Settings) → Type 0) → Type 0
+EveryGroup claim = (N : ℕ) (q : Quorums) (law : Law.Settings) → TypedSettings (settingsOf N q law 1) → settingsRefusal (settingsOf N q law 1) ≡ 0 → claim N q law
 
 -- any history of replicas with their records
 abbrev pub DemandThree : Type 0
-DemandThree = EveryGroup (λ N law. (h : List (Entry Group.Handed Areas)) → Demand3 (group N law) (lawOf law) (storage N law) h)
+DemandThree = EveryGroup (λ N q law. (h : List (Entry Group.Handed Areas)) → Demand3 (group N q law) (lawOf law) (storage N q law) h)
 
 -- any history of the C firmware's areas, stored by `winder_record`
 abbrev pub DemandThreeWritten : Type 0
-DemandThreeWritten = EveryGroup (λ N law. (h : List (Entry Firmware.Handed Areas)) → Demand3 (firmware N law) (lawOf law) (written N law) h)
+DemandThreeWritten = EveryGroup (λ N q law. (h : List (Entry Firmware.Handed Areas)) → Demand3 (firmware N q law) (lawOf law) (written N q law) h)
 
 -- the same where the areas themselves are stored
 abbrev pub DemandThreeCopied : Type 0
-DemandThreeCopied = EveryGroup (λ N law. (h : List (Entry Firmware.Handed Areas)) → Demand3 (firmware N law) (lawOf law) (copied N law) h)
+DemandThreeCopied = EveryGroup (λ N q law. (h : List (Entry Firmware.Handed Areas)) → Demand3 (firmware N q law) (lawOf law) (copied N q law) h)
 
 -- demand 3 of document 01, of which these are the general case: any history in which no box returns
 abbrev pub DemandThreePlain : Type 0
-DemandThreePlain = EveryGroup (λ N law. (h : List (Base.Entry Group.Handed Areas)) → BaseClaim.Demand3 (group N law) (lawOf law) h)
+DemandThreePlain = EveryGroup (λ N q law. (h : List (Base.Entry Group.Handed Areas)) → BaseClaim.Demand3 (group N q law) (lawOf law) h)
 
 -- the same for the calls of the C firmware
 abbrev pub DemandThreePlainFirmware : Type 0
-DemandThreePlainFirmware = EveryGroup (λ N law. (h : List (Base.Entry Firmware.Handed Areas)) → BaseClaim.Demand3 (firmware N law) (lawOf law) h)
+DemandThreePlainFirmware = EveryGroup (λ N q law. (h : List (Base.Entry Firmware.Handed Areas)) → BaseClaim.Demand3 (firmware N q law) (lawOf law) h)

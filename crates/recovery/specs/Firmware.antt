@@ -14,6 +14,7 @@ use Rattle.transmitters.specs.Numbers.{readingsOf}
 use Rattle.scram.specs.Held.{Input, Tick, Arrival, GiveUp, fresh}
 use Rattle.scram.specs.History.{Result, System}
 use Rattle.scram.specs.Shown.{isRefused}
+use Rattle.quorums.specs.declared.Quorums.{Quorums}
 use Rattle.law.specs.declared.Settings as Law
 use Rattle.law.specs.declared.Marked.{Marked}
 use Rattle.frame.specs.Command.{commandPeriod}
@@ -49,7 +50,7 @@ outcomeAt r GiveUp a = giveUpOutcome r (length (a .frame)) (length (a .command))
 abbrev pub resultAt : List ℕ → Outcomes → Result (List ℕ)
 resultAt b o = record { box = recordAfter b o; refused = isRefused (o .answer); frame = sentAt b o; command = issuedAt b o }
 
-module _ (N : ℕ) (law : Law.Settings) where
+module _ (N : ℕ) (q : Quorums) (law : Law.Settings) where
   -- N boxes under this law. Each starts with what `winder_make` writes; a box that is not of the group has no record, and every call at it gets 15. What an
   -- area holds is what the replica in it holds.
   abbrev pub firmware : System (List ℤ) Readings Marked
@@ -57,7 +58,7 @@ module _ (N : ℕ) (law : Law.Settings) where
     Box = List ℕ;
     Handed = Handed;
     Areas = Areas;
-    fresh = λ i. recorded (freshOf (settingsOf N law i)) recordLength;
+    fresh = λ i. recorded (freshOf (settingsOf N q law i)) recordLength;
     call = λ b e a. resultAt b (stepAt b (λ r. outcomeAt r e a));
     held = λ b. pick (isRecord b) (heldIn (replicaIn b .held)) (fresh (lawOf law));
     row = λ y. normalised (law .m) (rowOf y);

@@ -9,6 +9,7 @@ use lib.Dec.{eqb}
 use Rattle.bytes.specs.Areas.{over}
 use Rattle.scram.specs.Held.{Input}
 use Rattle.scram.specs.History.{Result}
+use Rattle.quorums.specs.declared.Quorums.{Quorums}
 use Rattle.law.specs.declared.Settings as Law
 use Rattle.replica.specs.Calls.{freshOf}
 use Rattle.records.specs.Lengths.{recordLength}
@@ -37,24 +38,24 @@ pub record Leaves (w : Result (List ℕ)) (number : ℕ) (b′ lengths frame fra
 -- for any area, record or not, and any lent areas
 abbrev pub StepsMean : Type 0
 StepsMean =
-    (N : ℕ) (law : Law.Settings) (b : List ℕ) (x : Input Handed (List ℕ)) (a : Areas) (number : ℕ) (b′ lengths frame′ command′ : List ℕ)
+    (N : ℕ) (q : Quorums) (law : Law.Settings) (b : List ℕ) (x : Input Handed (List ℕ)) (a : Areas) (number : ℕ) (b′ lengths frame′ command′ : List ℕ)
     → Steps b (stepAt b (λ r. outcomeAt r x a)) number b′ lengths (a .frame) frame′ (a .command) command′
-    → Leaves (firmware N law .call b x a) number b′ lengths (a .frame) frame′ (a .command) command′
+    → Leaves (firmware N q law .call b x a) number b′ lengths (a .frame) frame′ (a .command) command′
 
 -- ---- the others, to an area of a record's length
 
 -- `winder_make` at a box of the group
 abbrev pub MakingMeans : Type 0
-MakingMeans = EveryGroup (λ N law. (i : ℕ) (area : List ℕ) → 1 ≤ i → i ≤ N → length area ≡ recordLength
-    → over (recorded (freshOf (settingsOf N law i)) (length area)) area ≡ firmware N law .fresh i)
+MakingMeans = EveryGroup (λ N q law. (i : ℕ) (area : List ℕ) → 1 ≤ i → i ≤ N → length area ≡ recordLength
+    → over (recorded (freshOf (settingsOf N q law i)) (length area)) area ≡ firmware N q law .fresh i)
 
 -- `winder_record`, in any history
 abbrev pub RecordingMeans : Type 0
-RecordingMeans = EveryGroup (λ N law. (h : List (Entry Handed Areas)) (i : ℕ) (area : List ℕ) → 1 ≤ i → i ≤ N → length area ≡ recordLength
-    → over (recording (areaAfter N law h i) (length area)) area ≡ written N law .recorded (areaAfter N law h i))
+RecordingMeans = EveryGroup (λ N q law. (h : List (Entry Handed Areas)) (i : ℕ) (area : List ℕ) → 1 ≤ i → i ≤ N → length area ≡ recordLength
+    → over (recording (areaAfter N q law h i) (length area)) area ≡ written N q law .recorded (areaAfter N q law h i))
 
 -- `winder_return`, where it is not refused, from the record that was stored last in any history
 abbrev pub ReturningMeans : Type 0
-ReturningMeans = EveryGroup (λ N law. (h : List (Entry Handed Areas)) (i k : ℕ) (area : List ℕ) → 1 ≤ i → i ≤ N → length area ≡ recordLength
-    → returningRefusal k (storedAfter N law h i) (length area) ≡ 0
-    → written N law .back (storedAfter N law h i) k ≡ some (over (returning k (storedAfter N law h i) (length area)) area))
+ReturningMeans = EveryGroup (λ N q law. (h : List (Entry Handed Areas)) (i k : ℕ) (area : List ℕ) → 1 ≤ i → i ≤ N → length area ≡ recordLength
+    → returningRefusal k (storedAfter N q law h i) (length area) ≡ 0
+    → written N q law .back (storedAfter N q law h i) k ≡ some (over (returning k (storedAfter N q law h i) (length area)) area))

@@ -1,19 +1,22 @@
 -- What settings that are not refused tell: the group's numbers, the law's sizes, and what the rules rely on. Assumes nothing.
 use mathlib.Core.Path.{_≡_, refl, sym, _∙_}
 use mathlib.Core.Bool.{Bool, true, false, not, _||_}
-use Prim.Native.Nat.{ℕ, _≤_, _<_}
+use mathlib.Core.List.{List, [], _∷_}
+use Prim.Native.Nat.{ℕ, _+_, _≤_, _<_}
 use native.Mathlib.Omega.{arith}
 use lib.Dec.{T, eqb, ltb, nltb→le}
-use borrow.Author.Tests.{le-leb}
-use Rattle.lists.specs.Choice.{pick}
-use Rattle.lists.specs.Refusals.{firstOf}
+use borrow.Author.Tests.{le-leb, eqb-true, eqb-false}
+use Rattle.lists.specs.Refusals.{Refusal, refusal as row, firstOf}
 use Rattle.lists.proofs.Booleans.{nor-left, nor-right}
+use Rattle.lists.proofs.Refusals.{first-holds, first-fails, none-holds}
 use Rattle.scram.specs.Events.{badSender}
 use Rattle.law.specs.declared.Settings as Law
-use Rattle.law.specs.Settings.{refusals, refusal}
+use Rattle.law.specs.Settings.{refusal}
 use Rattle.law.proofs.Laws.{sizes-accepted}
-use Rattle.law.proofs.Lent.{refusal-first}
+use Rattle.law.proofs.Lent.{refusals-made, refusals-passed}
 use Rattle.frame.specs.Sizes.{sizesOk, commandsOk}
+use Rattle.quorums.specs.Quorums.{badQuorums}
+use Rattle.quorums.proofs.Stand.{stand}
 use Rattle.replica.specs.declared.Settings.{Settings}
 use Rattle.replica.specs.Settings.{badGroup, settingsRefusal, memberOf, Fit}
 
@@ -35,17 +38,44 @@ grouped N own t =
       ownN = nltb→le N own (nor-right (ltb N 3 || ltb 9 N || ltb own 1) (ltb N own) t);
     }
 
+-- the refusals of settings, one after the other
+module _ (s : Settings) where
+  -- 18 alone
+  abbrev eighteen : List Refusal
+  eighteen = row 18 (badQuorums (s .boxes) (s .quorums)) ∷ []
+
+  pub group-refused : badGroup (s .boxes) (s .own) ≡ true → 1 ≡ settingsRefusal s
+  unfolding settingsRefusal
+  group-refused e = sym (first-holds 1 _ _ e)
+
+  pub law-refused : badGroup (s .boxes) (s .own) ≡ false → (refusal (s .law) ≡ 0 → ⊥) → refusal (s .law) ≡ settingsRefusal s
+  unfolding settingsRefusal
+  law-refused e n = sym (first-fails 1 _ _ e ∙ refusals-made (s .law) eighteen n)
+
+  only-quorums : badGroup (s .boxes) (s .own) ≡ false → refusal (s .law) ≡ 0 → settingsRefusal s ≡ firstOf eighteen
+  unfolding settingsRefusal
+  only-quorums e z = first-fails 1 _ _ e ∙ refusals-passed (s .law) eighteen z
+
+  pub quorums-refused : badGroup (s .boxes) (s .own) ≡ false → refusal (s .law) ≡ 0 → badQuorums (s .boxes) (s .quorums) ≡ true → 18 ≡ settingsRefusal s
+  quorums-refused e z t = sym (only-quorums e z ∙ first-holds 18 _ _ t)
+
+  pub not-refused : badGroup (s .boxes) (s .own) ≡ false → refusal (s .law) ≡ 0 → badQuorums (s .boxes) (s .quorums) ≡ false → 0 ≡ settingsRefusal s
+  not-refused e z t = sym (only-quorums e z ∙ first-fails 18 _ _ t ∙ none-holds)
+
+-- none of them is made
 pub record Accepted (s : Settings) : Type 0 where
   pub group : Grouped (s .boxes) (s .own)
   pub law : refusal (s .law) ≡ 0
+  pub quorums : badQuorums (s .boxes) (s .quorums) ≡ false
 
 pub accepted : (s : Settings) → settingsRefusal s ≡ 0 → Accepted s
-unfolding settingsRefusal firstOf pick
-accepted s e = by (badGroup (s .boxes) (s .own)) refl e
+accepted s e = by (badGroup (s .boxes) (s .own)) (eqb (refusal (s .law)) 0) (badQuorums (s .boxes) (s .quorums)) refl refl refl
   where
-    by : (b : Bool) → badGroup (s .boxes) (s .own) ≡ b → pick b 1 (firstOf (refusals (s .law))) ≡ 0 → Accepted s
-    by true q z = absurd (omega arith)
-    by false q z = record { group = grouped (s .boxes) (s .own) (rw q tt); law = sym (refusal-first (s .law)) ∙ z }
+    by : (b c d : Bool) → badGroup (s .boxes) (s .own) ≡ b → eqb (refusal (s .law)) 0 ≡ c → badQuorums (s .boxes) (s .quorums) ≡ d → Accepted s
+    by true c d p q t = let z = group-refused s p ∙ e in absurd (omega arith)
+    by false false d p q t = let n = eqb-false (refusal (s .law)) 0 q in absurd (n (law-refused s p n ∙ e))
+    by false true true p q t = let z = quorums-refused s p (eqb-true _ _ q) t ∙ e in absurd (omega arith)
+    by false true false p q t = record { group = grouped (s .boxes) (s .own) (rw p tt); law = eqb-true _ _ q; quorums = t }
 
 -- the sizes that the law accepts are those of frames and commands
 module _ (s : Law.Settings) (e : refusal s ≡ 0) where
@@ -63,6 +93,10 @@ pub fit : (s : Settings) → settingsRefusal s ≡ 0 → Fit (memberOf s)
 fit s e =
     let a = accepted s e in
     record { boxes = a .group .N9; own = omega (arith, a .group .ownN, a .group .N9); sizes = frame-sizes (s .law) (a .law) }
+
+-- "a + b .. above N": any a boxes and any b boxes share one, which demand 3 rests on
+pub overlap : (s : Settings) → settingsRefusal s ≡ 0 → s .boxes < s .quorums .«to_decide» + s .quorums .«to_propose»
+overlap s e = stand (s .boxes) (s .quorums) (accepted s e .quorums) .overlap
 
 -- a sender that is not refused by 9 has a place among the boxes heard
 pub sender-place : (N own sender : ℕ) → N ≤ 9 → badSender N own sender ≡ false → sender < 10

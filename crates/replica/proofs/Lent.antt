@@ -19,7 +19,7 @@ use Rattle.replica.specs.Calls.{Outcomes, stepRefusal, checked, tickOutc
 
 -- the settings of a box, with the law's tables lent
 abbrev pub settings-with : Settings → Settings
-settings-with s = record { boxes = s .boxes; own = s .own; law = lent (s .law) }
+settings-with s = record { boxes = s .boxes; own = s .own; quorums = s .quorums; law = lent (s .law) }
 
 pub settings-lent : (s : Settings) → settingsRefusal (settings-with s) ≡ settingsRefusal s
 unfolding settingsRefusal refusals

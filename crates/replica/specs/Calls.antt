@@ -31,7 +31,7 @@ Outcomes = Outcome (List ℤ) Readings Marked
 abbrev pub shortArea : ℕ → ℕ → Bool
 shortArea frame command = ltb frame longestFrame || ltb command longestCommand
 
--- the number of the refusal that any step may make, or 0: "settings in it that 1 to 4 would refuse get that number, before the lent areas"
+-- the number of the refusal that any step may make, or 0: "settings in it that 1 to 4 would refuse get that number, before the lent areas"; 18 too
 unfoldable pub stepRefusal : Settings → ℕ → ℕ → ℕ
 stepRefusal s frame command = pick (not (eqb (settingsRefusal s) 0)) (settingsRefusal s) (pick (shortArea frame command) 5 0)
 

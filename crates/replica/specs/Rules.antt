@@ -13,7 +13,7 @@ use Rattle.readings.specs.Readings.{markBeyond}
 use Rattle.scram.specs.declared.Answer.the-variants.{Ignored, Refused}
 use Rattle.scram.specs.Answers.{answered}
 use Rattle.scram.specs.declared.Kind.the-variants as Kind
-use Rattle.scram.specs.Quorum.{majority, among, with, count}
+use Rattle.scram.specs.Quorum.{among, with, count}
 use Rattle.scram.specs.Held.{Command}
 use Rattle.scram.specs.Held as Scram
 use Rattle.scram.specs.Events as Events
@@ -95,9 +95,9 @@ ignoredRule h = record { answer = Ignored; held = h; frame = 0; issues = false }
 abbrev pub followed : Law.Settings → Member → Scram.Held (List ℤ) Readings → ℕ → Outcomes
 followed law member s view = Events.doing (Events.following (lawOf law) s view) (some (Events.estimating (member .own) s view)) none
 
--- whether the boxes heard, with one more, are a majority
-abbrev pub majorityHeard : ℕ → List Bool → ℕ → Bool
-majorityHeard boxes heard box = leb (majority boxes) (count (among (with heard box)) boxes)
+-- whether the boxes heard, with one more, are as many as a quorum number asks for
+abbrev pub quorumHeard : (quorum boxes : ℕ) → List Bool → ℕ → Bool
+quorumHeard quorum boxes heard box = leb quorum (count (among (with heard box)) boxes)
 
 -- the box decides with one more Ack
 abbrev pub decided : Law.Settings → Member → Scram.Held (List ℤ) Readings → ℕ → Outcomes

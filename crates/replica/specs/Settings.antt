@@ -1,16 +1,17 @@
--- The settings of a replica: refusals 1 to 4, and the law and the group that they give the protocol.
+-- The settings of a replica: refusals 1 to 4 and 18, and the law and the group that they give the protocol.
 use Prim.Native.Nat.{ℕ, _≤_}
 use mathlib.Core.Path.{_≡_}
 use mathlib.Core.Bool.{Bool, true, _||_}
-use mathlib.Core.List.{List, _∷_}
+use mathlib.Core.List.{List, [], _∷_, _++_}
 use lib.Dec.{ltb}
 use lib.ListN.{replicate}
 use lib.IntN.{ℤ, pos}
 use Rattle.lists.specs.Refusals.{Refusal, refusal, firstOf}
 use Rattle.readings.specs.declared.Readings.{Readings}
 use Rattle.readings.specs.Readings.{noReadings}
-use Rattle.scram.specs.Quorum.{majority, coordinator}
+use Rattle.scram.specs.Quorum.{coordinator}
 use Rattle.scram.specs.Held.{Law, Group}
+use Rattle.quorums.specs.Quorums.{badQuorums}
 use Rattle.law.specs.declared.Settings as Law
 use Rattle.law.specs.declared.Marked.{Marked}
 use Rattle.law.specs.Settings.{refusals}
@@ -24,9 +25,9 @@ use Rattle.replica.specs.declared.Member.{Member}
 unfoldable pub badGroup : ℕ → ℕ → Bool
 badGroup N own = ltb N 3 || ltb 9 N || ltb own 1 || ltb N own
 
--- the refusals of settings in their order: 1, then the law's 2 to 4
+-- the refusals of settings in their order: 1, then the law's 2 to 4, then 18 ("with the settings, after 4")
 abbrev pub settingsRefusals : Settings → List Refusal
-settingsRefusals s = refusal 1 (badGroup (s .boxes) (s .own)) ∷ refusals (s .law)
+settingsRefusals s = refusal 1 (badGroup (s .boxes) (s .own)) ∷ refusals (s .law) ++ (refusal 18 (badQuorums (s .boxes) (s .quorums)) ∷ [])
 
 -- the number of the first that is made, or 0
 unfoldable pub settingsRefusal : Settings → ℕ
@@ -44,14 +45,14 @@ lawOf law = record {
 
 -- the few numbers of the settings that the rules need
 abbrev pub memberOf : Settings → Member
-memberOf s = record { boxes = s .boxes; own = s .own; n = s .law .n; m = s .law .m }
+memberOf s = record { boxes = s .boxes; own = s .own; quorums = s .quorums; n = s .law .n; m = s .law .m }
 
--- a group of N boxes, with majorities
+-- a group of N boxes: "a, the boxes needed to decide, and b, the boxes heard before a new coordinator proposes"
 abbrev pub groupOf : Member → Group
 groupOf member = record {
   size = member .boxes;
-  toDecide = majority (member .boxes);
-  toPropose = majority (member .boxes);
+  toDecide = member .quorums .«to_decide»;
+  toPropose = member .quorums .«to_propose»;
   coordinator = coordinator (member .boxes);
 }
 
@@ -66,6 +67,7 @@ abbrev pub blankSettings : Settings
 blankSettings = record {
   boxes = 0;
   own = 0;
+  quorums = record { «to_decide» = 0; «to_propose» = 0 };
   law = record {
     n = 0;
     m = 0;

@@ -11,7 +11,7 @@ ghost use Rattle.scram.specs.Events as Events;
 ghost use Rattle.replica.specs.Settings.{Fit, lawOf, groupOf};
 ghost use Rattle.replica.specs.Held.{bestIn, heldIn};
 ghost use Rattle.replica.specs.Frames.{kindOf, messageOf, found};
-ghost use Rattle.replica.specs.Rules.{Says, majorityHeard, decided};
+ghost use Rattle.replica.specs.Rules.{Says, quorumHeard, decided};
 use crate::Best;
 use crate::Held;
 use crate::Member;
@@ -72,7 +72,7 @@ fn receive_propose(member: Member, held: Held, f: Frame, frame: &mut [u8]) -> Mo
     }
 }
 
-// A majority has acknowledged: Decide to all others, and the command.
+// The boxes needed to decide have acknowledged: Decide to all others, and the command.
 fn decide(member: Member, held: Held, box_number: u8, frame: &mut [u8]) -> Moved
     requires { ⌜ Fit member × (longestFrame ≤ length (now frame)) × («box_number» < 10) ⌝ }
     ensures { λ r. ⌜ ((law : Law.Settings) → Says law member (decided law member (heldIn held) «box_number») r (now (frame .entry)) (now (frame .exit))) ⌝ }
@@ -98,23 +98,24 @@ fn decide(member: Member, held: Held, box_number: u8, frame: &mut [u8]) -> Moved
     }
 }
 
-// Whether the boxes heard, with one more, are a majority.
-fn majority_heard(boxes: u8, heard: [bool; 10], box_number: u8) -> bool
+// Whether the boxes heard, with one more, are as many as a quorum number asks for.
+fn quorum_heard(quorum: u8, boxes: u8, heard: [bool; 10], box_number: u8) -> bool
     requires { ⌜ «box_number» < 10 ⌝ }
-    ensures { λ r. ⌜ r ≡ majorityHeard boxes heard «box_number» ⌝ }
+    ensures { λ r. ⌜ r ≡ quorumHeard quorum boxes heard «box_number» ⌝ }
 {
     let more = with_box(heard, box_number);
-    scram::quorum::majority(boxes) <= scram::quorum::count_heard(more, boxes)
+    quorum <= scram::quorum::count_heard(more, boxes)
 }
 
-// An Ack: at a majority the box decides.
+// An Ack: at the boxes needed to decide the box decides.
 fn hear_ack(member: Member, held: Held, box_number: u8, frame: &mut [u8]) -> Moved
     requires { ⌜ Fit member × (longestFrame ≤ length (now frame)) × («box_number» < 10) ⌝ }
     ensures { λ r. ⌜ ((law : Law.Settings) → Says law member (Events.hearAck (lawOf law) (groupOf member) (member .own) (heldIn held) «box_number»)
         r (now (frame .entry)) (now (frame .exit))) ⌝ }
 {
     let heard = held.heard;
-    if majority_heard(member.boxes, heard, box_number) {
+    let needed = member.quorums.to_decide;
+    if quorum_heard(needed, member.boxes, heard, box_number) {
         return decide(member, held, box_number, frame);
     }
     let best = held.best;
@@ -141,7 +142,7 @@ fn receive_decide(held: Held, f: Frame) -> Moved
     }
 }
 
-// An estimate heard: at a majority the best is taken whole and proposed.
+// An estimate heard: at the boxes needed to propose the best is taken whole and proposed.
 fn hear_estimate(member: Member, held: Held, given: Best, frame: &mut [u8]) -> Moved
     requires { ⌜ Fit member × (longestFrame ≤ length (now frame)) × (given .«box_number» < 10) ⌝ }
     ensures { λ r. ⌜ ((law : Law.Settings) → Says law member (Events.hearEstimate (lawOf law) (groupOf member) (member .own) (heldIn held) (bestIn given))
@@ -151,7 +152,8 @@ fn hear_estimate(member: Member, held: Held, given: Best, frame: &mut [u8]) -> M
     let best = better(before, given);
     let box_number = given.box_number;
     let heard = held.heard;
-    if majority_heard(member.boxes, heard, box_number) {
+    let needed = member.quorums.to_propose;
+    if quorum_heard(needed, member.boxes, heard, box_number) {
         let estimate = best.estimate;
         return propose(member, held, estimate, frame);
     }

@@ -23,12 +23,14 @@ use crate::refusals::refused;
 use crate::refusals::tick_refusal;
 use crate::rules::after_tick;
 use crate::rules::give_up_view;
+use quorums::Quorums;
 use readings::Readings;
 
 // A tick with converted readings. It issues no command, so that the command area, which it is not lent, stays as it is.
 pub fn tick<'a>(
     boxes: u8,
     own: u8,
+    quorums: Quorums,
     n: usize,
     m: usize,
     p: usize,
@@ -42,9 +44,9 @@ pub fn tick<'a>(
     readings: Readings,
     frame: &mut [u8],
 ) -> Given
-    requires { ⌜ (settingsRefusal (record { boxes = boxes; own = own; law = settingsOf n m p (now a) (now l) (now c) (now k) (now low) (now high) }) ≡ 0) × (longestFrame ≤ length (now frame)) ⌝ }
+    requires { ⌜ (settingsRefusal (record { boxes = boxes; own = own; quorums = quorums; law = settingsOf n m p (now a) (now l) (now c) (now k) (now low) (now high) }) ≡ 0) × (longestFrame ≤ length (now frame)) ⌝ }
     ensures { λ r. ⌜ ((command : List ℕ) → Does n m p (Events.tick (lawOf (settingsOf n m p (now (a .entry)) (now (l .entry)) (now (c .entry)) (now (k .entry)) (now (low .entry)) (now (high .entry))))
-        (groupOf (record { boxes = boxes; own = own; n = n; m = m })) own (heldIn held) (markBeyond m readings) (normalised m readings)) r (now (frame .entry)) (now (frame .exit)) command command) ⌝ }
+        (groupOf (record { boxes = boxes; own = own; quorums = quorums; n = n; m = m })) own (heldIn held) (markBeyond m readings) (normalised m readings)) r (now (frame .entry)) (now (frame .exit)) command command) ⌝ }
 {
     let number = tick_refusal(held, m, readings);
     if number != 0 {
@@ -65,17 +67,45 @@ pub fn tick<'a>(
         estimate.readings,
     );
     let next = ticked(held, m, state, readings);
-    let moved = after_tick(Member { boxes, own, n, m }, next, frame);
+    let moved = after_tick(
+        Member {
+            boxes,
+            own,
+            quorums,
+            n,
+            m,
+        },
+        next,
+        frame,
+    );
     with_command(moved, 0)
 }
 
 // The view is given up, whatever the law is: nothing is updated and no command issued.
-pub fn give_up(boxes: u8, own: u8, n: usize, m: usize, held: Held, frame: &mut [u8]) -> Given
-    requires { ⌜ Fit (record { boxes = boxes; own = own; n = n; m = m }) × (longestFrame ≤ length (now frame)) ⌝ }
+pub fn give_up(
+    boxes: u8,
+    own: u8,
+    quorums: Quorums,
+    n: usize,
+    m: usize,
+    held: Held,
+    frame: &mut [u8],
+) -> Given
+    requires { ⌜ Fit (record { boxes = boxes; own = own; quorums = quorums; n = n; m = m }) × (longestFrame ≤ length (now frame)) ⌝ }
     ensures { λ r. ⌜ ((law : Law.Settings) (p : ℕ) (command : List ℕ) → Does n m p (Events.giveUp (lawOf law)
-        (groupOf (record { boxes = boxes; own = own; n = n; m = m })) own (heldIn held)) r (now (frame .entry)) (now (frame .exit)) command command) ⌝ }
+        (groupOf (record { boxes = boxes; own = own; quorums = quorums; n = n; m = m })) own (heldIn held)) r (now (frame .entry)) (now (frame .exit)) command command) ⌝ }
 {
-    let moved = give_up_view(Member { boxes, own, n, m }, held, frame);
+    let moved = give_up_view(
+        Member {
+            boxes,
+            own,
+            quorums,
+            n,
+            m,
+        },
+        held,
+        frame,
+    );
     with_command(moved, 0)
 }
 
@@ -83,6 +113,7 @@ pub fn give_up(boxes: u8, own: u8, n: usize, m: usize, held: Held, frame: &mut [
 pub fn arrive<'a>(
     boxes: u8,
     own: u8,
+    quorums: Quorums,
     n: usize,
     m: usize,
     p: usize,
@@ -97,11 +128,22 @@ pub fn arrive<'a>(
     frame: &mut [u8],
     command: &mut [u8],
 ) -> Given
-    requires { ⌜ (settingsRefusal (record { boxes = boxes; own = own; law = settingsOf n m p (now a) (now l) (now c) (now k) (now low) (now high) }) ≡ 0) × (longestFrame ≤ length (now frame)) × (longestCommand ≤ length (now command)) ⌝ }
+    requires { ⌜ (settingsRefusal (record { boxes = boxes; own = own; quorums = quorums; law = settingsOf n m p (now a) (now l) (now c) (now k) (now low) (now high) }) ≡ 0) × (longestFrame ≤ length (now frame)) × (longestCommand ≤ length (now command)) ⌝ }
     ensures { λ r. ⌜ Does n m p (Events.arrival (lawOf (settingsOf n m p (now (a .entry)) (now (l .entry)) (now (c .entry)) (now (k .entry)) (now (low .entry)) (now (high .entry))))
-        (groupOf (record { boxes = boxes; own = own; n = n; m = m })) own (heldIn held) (found n m (now (bytes .entry)))) r (now (frame .entry)) (now (frame .exit)) (now (command .entry)) (now (command .exit)) ⌝ }
+        (groupOf (record { boxes = boxes; own = own; quorums = quorums; n = n; m = m })) own (heldIn held) (found n m (now (bytes .entry)))) r (now (frame .entry)) (now (frame .exit)) (now (command .entry)) (now (command .exit)) ⌝ }
 {
-    let moved = arrive_bytes(Member { boxes, own, n, m }, held, bytes, frame);
+    let moved = arrive_bytes(
+        Member {
+            boxes,
+            own,
+            quorums,
+            n,
+            m,
+        },
+        held,
+        bytes,
+        frame,
+    );
     let issued = issue(
         moved.issues,
         moved.held,

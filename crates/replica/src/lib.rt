@@ -17,14 +17,16 @@ ghost use Rattle.replica.specs.Rules.{steppedBy};
 use estimate::Estimate;
 use moves::blank_settings;
 use moves::fresh;
+use quorums::Quorums;
 use refusals::settings_refusal;
 use scram::Answer;
 use transmitters::Reading;
 
-// The group's size N, the box's own number, and the settings of the law. Those of one group differ in the own number alone.
+// The group's size N, the box's own number, the quorum numbers, and the settings of the law. Those of one group differ in the own number alone.
 pub struct Settings {
     pub boxes: u8,
     pub own: u8,
+    pub quorums: Quorums,
     pub law: law::Settings,
 }
 
@@ -77,10 +79,11 @@ pub struct Made {
     pub replica: Replica,
 }
 
-// The few numbers of the settings that the rules need: N, the own number, and the sizes of a frame.
+// The few numbers of the settings that the rules need: N, the own number, the quorum numbers, and the sizes of a frame.
 struct Member {
     boxes: u8,
     own: u8,
+    quorums: Quorums,
     n: usize,
     m: usize,
 }
@@ -100,7 +103,12 @@ impl Replica {
         ensures replica { λ r. ⌜ r .replica ≡ made settings ⌝ }
     {
         let law = settings.law;
-        let number = settings_refusal(settings.boxes, settings.own, law::check(law));
+        let number = settings_refusal(
+            settings.boxes,
+            settings.own,
+            settings.quorums,
+            law::check(law),
+        );
         if number != 0 {
             let replica = blank();
             return Made {
@@ -124,6 +132,7 @@ impl Replica {
         let given = checked::tick(
             self.settings.boxes,
             self.settings.own,
+            self.settings.quorums,
             self.settings.law.n,
             self.settings.law.m,
             self.settings.law.p,
@@ -149,6 +158,7 @@ impl Replica {
         let given = checked::give_up(
             self.settings.boxes,
             self.settings.own,
+            self.settings.quorums,
             self.settings.law.n,
             self.settings.law.m,
             self.settings.law.p,
@@ -173,6 +183,7 @@ impl Replica {
         let given = checked::arrive(
             self.settings.boxes,
             self.settings.own,
+            self.settings.quorums,
             self.settings.law.n,
             self.settings.law.m,
             self.settings.law.p,

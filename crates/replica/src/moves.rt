@@ -15,6 +15,7 @@ use crate::Held;
 use crate::Replica;
 use crate::Settings;
 use estimate::Estimate;
+use quorums::Quorums;
 use readings::Readings;
 
 // No estimate heard yet.
@@ -84,9 +85,14 @@ pub(crate) fn blank_settings() -> Settings
         high: [0i32; 4],
         start: [0i32; 6],
     };
+    let quorums = Quorums {
+        to_decide: 0,
+        to_propose: 0,
+    };
     Settings {
         boxes: 0,
         own: 0,
+        quorums,
         law,
     }
 }

@@ -1,4 +1,4 @@
-// Refusals 1 to 7 and 12, which need no frame: the settings, the lent areas, and the tick.
+// Refusals 1 to 7, 12 and 18, which need no frame: the settings, the lent areas, and the tick.
 ghost use mathlib.Core.Path.{_≡_};
 ghost use mathlib.Core.Bool.{_&&_};
 ghost use Rattle.law.specs.declared.Settings as Law;
@@ -11,6 +11,8 @@ ghost use Rattle.replica.specs.Rules.{tickRefusal, refusedStep, refusedR
 use crate::Given;
 use crate::Held;
 use crate::Moved;
+use quorums::Quorums;
+use quorums::bad_quorums;
 use readings::Readings;
 use scram::Answer;
 
@@ -30,14 +32,22 @@ fn bad_group(n: u8, own: u8) -> bool
     n < own
 }
 
-// The number of the refusal of settings, or 0: 1, then the law's own answer.
-pub fn settings_refusal(boxes: u8, own: u8, law: law::Answer) -> u8
-    ensures { λ r. ⌜ ((s : Law.Settings) → number law ≡ refusal s → r ≡ settingsRefusal (record { boxes = boxes; own = own; law = s })) ⌝ }
+// The number of the refusal of settings, or 0: 1, then the law's own answer, then 18.
+pub fn settings_refusal(boxes: u8, own: u8, quorums: Quorums, law: law::Answer) -> u8
+    ensures { λ r. ⌜ ((s : Law.Settings) → number law ≡ refusal s → r ≡ settingsRefusal (record { boxes = boxes; own = own; quorums = quorums; law = s })) ⌝ }
 {
     if bad_group(boxes, own) {
         return 1;
     }
-    law::number_of(law)
+    let of_law = law::number_of(law);
+    let bad = bad_quorums(boxes, quorums);
+    if of_law != 0 {
+        return of_law;
+    }
+    if bad {
+        return 18;
+    }
+    0
 }
 
 // 5: an area is shorter than the longest frame or command.
@@ -50,11 +60,18 @@ pub fn short_area(frame: usize, command: usize) -> bool
     command < frame::lengths::LONGEST_COMMAND
 }
 
-// The number of the refusal of any step, or 0: 1 to 4 for the settings, then 5 for the areas.
-pub(crate) fn step_refusal(boxes: u8, own: u8, law: law::Answer, frame: usize, command: usize) -> u8
-    ensures { λ r. ⌜ ((s : Law.Settings) → number law ≡ refusal s → r ≡ stepRefusal (record { boxes = boxes; own = own; law = s }) frame command) ⌝ }
+// The number of the refusal of any step, or 0: 1 to 4 and 18 for the settings, then 5 for the areas.
+pub(crate) fn step_refusal(
+    boxes: u8,
+    own: u8,
+    quorums: Quorums,
+    law: law::Answer,
+    frame: usize,
+    command: usize,
+) -> u8
+    ensures { λ r. ⌜ ((s : Law.Settings) → number law ≡ refusal s → r ≡ stepRefusal (record { boxes = boxes; own = own; quorums = quorums; law = s }) frame command) ⌝ }
 {
-    let number = settings_refusal(boxes, own, law);
+    let number = settings_refusal(boxes, own, quorums, law);
     let short = short_area(frame, command);
     if number != 0 {
         return number;

@@ -23,11 +23,20 @@ fn put_wanted(text: &mut [u8], at: usize, field: usize) -> usize {
     put_word(text, at, b"a number within i32\n")
 }
 
-fn put_field(text: &mut [u8], field: usize) -> usize {
+fn put_place(text: &mut [u8], field: usize) -> usize {
     let at = put_word(text, 0, b"rig: field ");
     let at = put_number(text, at, field);
-    let at = put_word(text, at, b" of the first line is not ");
+    put_word(text, at, b" of the first line is not ")
+}
+
+fn put_field(text: &mut [u8], field: usize) -> usize {
+    let at = put_place(text, field);
     put_wanted(text, at, field)
+}
+
+fn put_quorum(text: &mut [u8], field: usize) -> usize {
+    let at = put_place(text, field);
+    put_word(text, at, b"a number from 0 to 255\n")
 }
 
 // Five fields are what a line needs whose sizes do not tell how many numbers follow.
@@ -59,10 +68,15 @@ fn put_refusal(text: &mut [u8], number: u8) -> usize {
             0,
             b"rig: refused by 3: a coefficient is below -16777216 or above 16777216\n",
         ),
-        _ => put_word(
+        4 => put_word(
             text,
             0,
             b"rig: refused by 4: a lower limit is above its upper\n",
+        ),
+        _ => put_word(
+            text,
+            0,
+            b"rig: refused by 18: a or b is not 2 to N, or a + b is not above N\n",
         ),
     }
 }
@@ -71,6 +85,7 @@ fn put_message(text: &mut [u8], wrong: Wrong) -> usize {
     match wrong {
         Wrong::Nothing => 0,
         Wrong::Field(field) => put_field(text, field),
+        Wrong::Quorum(field) => put_quorum(text, field),
         Wrong::Fields(fields, needed) => put_fields(text, fields, needed),
         Wrong::Refused(number) => put_refusal(text, number),
     }

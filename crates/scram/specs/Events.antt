@@ -278,7 +278,7 @@ module _ {State Readings Values : Type 0} (law : Law State Readings Values) wher
         (pick (lastView (s .view)) (refusing s 12)
         (raise s)))
 
-    -- Ack arrives: "At a majority the box decides: Decide to all others, and the command."
+    -- Ack arrives: at "a, the boxes needed to decide", "the box decides: Decide to all others, and the command."
     unfoldable pub hearAck : Held State Readings → ℕ → Outcome State Readings Values
     hearAck s box =
         pick (leb (group .toDecide) (count (among (with (s .heard) box)) (group .size)))
@@ -286,7 +286,7 @@ module _ {State Readings Values : Type 0} (law : Law State Readings Values) wher
         (some (commandOf (s .period) (s .estimate))))
         (doing (hearing s box (s .best) (s .decided)) none none)
 
-    -- Estimate arrives: "At a majority it takes the best estimate whole and proposes."
+    -- Estimate arrives: at "b, the boxes heard before a new coordinator proposes", "it takes the best estimate whole and proposes."
     unfoldable pub hearEstimate : Held State Readings → Best State Readings → Outcome State Readings Values
     hearEstimate s c =
         pick (leb (group .toPropose) (count (among (with (s .heard) (c .box))) (group .size)))

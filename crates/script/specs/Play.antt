@@ -167,7 +167,7 @@ pub record AskLeaves (event : Event) (number : ℕ) (a : Asking) (at : ℕ) (r :
 
 -- the fresh replica of box b, one that refuses every event by 1 where there is no such box or the settings are refused
 abbrev pub freshBox : Settings → ℕ → Replica
-freshBox s b = made (record { boxes = s .boxes; own = b; law = s .law })
+freshBox s b = made (record { boxes = s .boxes; own = b; quorums = s .quorums; law = s .law })
 
 -- boxes with fresh replicas, box b at place b
 unfoldable pub freshBoxes : Settings → List Kept

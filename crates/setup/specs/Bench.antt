@@ -26,6 +26,6 @@ benchLaw = record {
   start = first (pos 0) 5;
 }
 
--- "N = 3", at box 1
+-- "N = 3", and of a and b "on the bench 2 and 2", at box 1
 abbrev pub bench : Settings
-bench = record { boxes = 3; own = 1; law = benchLaw }
+bench = record { boxes = 3; own = 1; quorums = record { «to_decide» = 2; «to_propose» = 2 }; law = benchLaw }

@@ -1,9 +1,10 @@
 // The settings of document 01's bench, which program bench runs and the cases P1 to P5 are about.
 ghost use mathlib.Core.Path.{_≡_};
 ghost use Rattle.setup.specs.Bench.{bench};
+use quorums::Quorums;
 use replica::Settings;
 
-// N = 3; n = m = p = 1; A, C and K hold 65536, L 32768; widest limits; start 0. The settings of box 1.
+// N = 3, both quorum numbers 2; n = m = p = 1; A, C and K hold 65536, L 32768; widest limits; start 0. The settings of box 1.
 pub fn bench_settings() -> Settings
     ensures { λ r. ⌜ r ≡ bench ⌝ }
 {
@@ -31,9 +32,14 @@ pub fn bench_settings() -> Settings
         high,
         start: [0i32; 6],
     };
+    let quorums = Quorums {
+        to_decide: 2,
+        to_propose: 2,
+    };
     Settings {
         boxes: 3,
         own: 1,
+        quorums,
         law,
     }
 }

@@ -10,12 +10,13 @@ use Rattle.replica.specs.declared.Held.{Held}
 use Rattle.winder.specs.LawAreas.{markAt, readingsOf}
 use Rattle.winder.specs.FrameAreas.{marksOf}
 
--- the settings in a caller's areas: N and the own number; n, m and p; the tables, limits and starting state as they are
+-- the settings in a caller's areas: N, the own number and the quorum numbers; n, m and p; the tables, limits and starting state as they are
 abbrev pub settingsOf : (group sizes : List ℕ) (a l c k low high start : List ℤ) → Settings
 settingsOf group sizes a l c k low high start =
     record {
       boxes = getD group 0 0;
       own = getD group 1 0;
+      quorums = record { «to_decide» = getD group 2 0; «to_propose» = getD group 3 0 };
       law = record {
         n = getD sizes 0 0;
         m = getD sizes 1 0;

@@ -3,6 +3,7 @@ ghost use mathlib.Core.Path.{_≡_};
 ghost use Rattle.steps.specs.Areas.{settingsOf, areas, heardOf, heardMarks, heldOf, areasOf};
 ghost use Rattle.steps.specs.Calls.{Laid};
 use estimate::Estimate;
+use quorums::Quorums;
 use replica::Best;
 use replica::Held;
 use replica::Settings;
@@ -13,7 +14,7 @@ use winder::areas::marks_of;
 use winder::areas::readings_of;
 
 pub(crate) fn settings_of(
-    group: &[u8; 2],
+    group: &[u8; 4],
     sizes: &[usize; 3],
     a: &[i32; 36],
     l: &[i32; 24],
@@ -45,9 +46,14 @@ pub(crate) fn settings_of(
         high,
         start,
     };
+    let quorums = Quorums {
+        to_decide: group[2],
+        to_propose: group[3],
+    };
     Settings {
         boxes: group[0],
         own: group[1],
+        quorums,
         law,
     }
 }

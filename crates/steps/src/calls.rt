@@ -16,7 +16,7 @@ use winder::answers::replica_number;
 // A fresh replica.
 #[no_mangle]
 pub extern "C" fn steps_make(
-    group: &[u8; 2],
+    group: &[u8; 4],
     sizes: &[usize; 3],
     a: &[i32; 36],
     l: &[i32; 24],
@@ -64,7 +64,7 @@ pub extern "C" fn steps_make(
 // A tick with readings, each by its kind and its bits.
 #[no_mangle]
 pub extern "C" fn steps_tick(
-    group: &[u8; 2],
+    group: &[u8; 4],
     sizes: &[usize; 3],
     a: &[i32; 36],
     l: &[i32; 24],
@@ -134,7 +134,7 @@ pub extern "C" fn steps_tick(
 // A view given up.
 #[no_mangle]
 pub extern "C" fn steps_give_up(
-    group: &[u8; 2],
+    group: &[u8; 4],
     sizes: &[usize; 3],
     a: &[i32; 36],
     l: &[i32; 24],
@@ -200,7 +200,7 @@ pub extern "C" fn steps_give_up(
 // Bytes that arrive.
 #[no_mangle]
 pub extern "C" fn steps_arrive(
-    group: &[u8; 2],
+    group: &[u8; 4],
     sizes: &[usize; 3],
     a: &[i32; 36],
     l: &[i32; 24],

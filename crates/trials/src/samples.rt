@@ -30,7 +30,13 @@ pub(crate) fn law_with(of_a: i32, of_l: i32, of_c: i32, of_k: i32) -> law::Setti
 
 pub(crate) fn settings(boxes: u8, own: u8) -> Settings {
     let law = law_with(65536, 32768, 65536, 65536);
-    Settings { boxes, own, law }
+    let quorums = quorums::majorities(boxes);
+    Settings {
+        boxes,
+        own,
+        quorums,
+        law,
+    }
 }
 
 // The Propose of box 1 in period 1 and view 0.

@@ -67,8 +67,7 @@ module _ (b : List ℕ) (is : isRecord b ≡ true) where
   record-part bytes =
       let first = both (eqb (length b) recordLength) _ record-layout in
       let second = both (eqb (getD b 0 0) letter) _ (first .1) in
-      let third = both (eqb (getD b 1 0) version) _ (second .1) in
-      sym (settings-written b bytes record-length (eqb-true _ _ (second .0)) (eqb-true _ _ (third .0)) (eqb-true _ _ (third .1)))
+      sym (settings-written b bytes record-length (eqb-true _ _ (second .0)) (eqb-true _ _ (second .1)))
 
 -- ---- the areas
 

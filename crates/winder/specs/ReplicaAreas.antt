@@ -23,11 +23,12 @@ use Rattle.records.specs.Returning.{missesTooMany, stayedUp}
 use Rattle.winder.specs.Answers.{numberOf}
 
 -- the settings in a caller's areas
-abbrev pub settingsOf : (n m p : ℕ) (a l c k low high start : List ℤ) (boxes own : ℕ) → Settings
-settingsOf n m p a l c k low high start boxes own =
+abbrev pub settingsOf : (n m p : ℕ) (a l c k low high start : List ℤ) (boxes own toDecide toPropose : ℕ) → Settings
+settingsOf n m p a l c k low high start boxes own toDecide toPropose =
     record {
       boxes = boxes;
       own = own;
+      quorums = record { «to_decide» = toDecide; «to_propose» = toPropose };
       law = record { n = n; m = m; p = p; a = a; l = l; c = c; k = k; low = low; high = high; start = start };
     }
 

@@ -3,7 +3,7 @@ use Prim.Native.Nat.{ℕ, _+_, _*_}
 
 -- a call that is gone or means something else makes a new major version
 abbrev pub major : ℕ
-major = 2
+major = 3
 
 -- a further call makes a new minor version
 abbrev pub minor : ℕ

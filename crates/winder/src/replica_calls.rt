@@ -15,6 +15,7 @@ ghost use Rattle.records.specs.Reading.{isDone};
 ghost use Rattle.winder.specs.Answers.{numberOf};
 ghost use Rattle.winder.specs.ReplicaAreas.{settingsOf, stepAt, Steps};
 use crate::answers::replica_number;
+use quorums::Quorums;
 use records::conditions::layout_ok;
 use records::held_part::held_at;
 use records::held_part::put_held;
@@ -45,8 +46,10 @@ fn settings_of(
     start: &[i32; 6],
     boxes: u8,
     own: u8,
+    to_decide: u8,
+    to_propose: u8,
 ) -> Settings
-    ensures { λ r. ⌜ r ≡ settingsOf n m p (now (a .entry)) (now (l .entry)) (now (c .entry)) (now (k .entry)) (now (low .entry)) (now (high .entry)) (now (start .entry)) boxes own ⌝ }
+    ensures { λ r. ⌜ r ≡ settingsOf n m p (now (a .entry)) (now (l .entry)) (now (c .entry)) (now (k .entry)) (now (low .entry)) (now (high .entry)) (now (start .entry)) boxes own «to_decide» «to_propose» ⌝ }
 {
     let a = *a;
     let l = *l;
@@ -67,7 +70,16 @@ fn settings_of(
         high,
         start,
     };
-    Settings { boxes, own, law }
+    let quorums = Quorums {
+        to_decide,
+        to_propose,
+    };
+    Settings {
+        boxes,
+        own,
+        quorums,
+        law,
+    }
 }
 
 // Makes a fresh replica.
@@ -85,12 +97,29 @@ pub extern "C" fn winder_make(
     start: &[i32; 6],
     boxes: u8,
     own: u8,
+    to_decide: u8,
+    to_propose: u8,
     replica: &mut [u8],
 ) -> u32
-    ensures answer { λ r. ⌜ r ≡ numberOf (recordAnswer (settingsOf n m p (now (a .entry)) (now (l .entry)) (now (c .entry)) (now (k .entry)) (now (low .entry)) (now (high .entry)) (now (start .entry)) boxes own) (length (now (replica .entry)))) ⌝ }
-    ensures replica { λ _. ⌜ now (replica .exit) ≡ over (recorded (freshOf (settingsOf n m p (now (a .entry)) (now (l .entry)) (now (c .entry)) (now (k .entry)) (now (low .entry)) (now (high .entry)) (now (start .entry)) boxes own)) (length (now (replica .entry)))) (now (replica .entry)) ⌝ }
+    ensures answer { λ r. ⌜ r ≡ numberOf (recordAnswer (settingsOf n m p (now (a .entry)) (now (l .entry)) (now (c .entry)) (now (k .entry)) (now (low .entry)) (now (high .entry)) (now (start .entry)) boxes own «to_decide» «to_propose») (length (now (replica .entry)))) ⌝ }
+    ensures replica { λ _. ⌜ now (replica .exit) ≡ over (recorded (freshOf (settingsOf n m p (now (a .entry)) (now (l .entry)) (now (c .entry)) (now (k .entry)) (now (low .entry)) (now (high .entry)) (now (start .entry)) boxes own «to_decide» «to_propose»)) (length (now (replica .entry)))) (now (replica .entry)) ⌝ }
 {
-    let made = Replica::make(settings_of(n, m, p, a, l, c, k, low, high, start, boxes, own));
+    let made = Replica::make(settings_of(
+        n,
+        m,
+        p,
+        a,
+        l,
+        c,
+        k,
+        low,
+        high,
+        start,
+        boxes,
+        own,
+        to_decide,
+        to_propose,
+    ));
     let answer = made.answer;
     if !is_done(answer) {
         return replica_number(answer);
@@ -138,6 +167,7 @@ pub extern "C" fn winder_tick(
     let ok = parts_ok(
         settings.boxes,
         settings.own,
+        settings.quorums,
         settings.law.n,
         settings.law.m,
         settings.law.p,
@@ -160,6 +190,7 @@ pub extern "C" fn winder_tick(
     let given = fit::tick(
         settings.boxes,
         settings.own,
+        settings.quorums,
         settings.law.n,
         settings.law.m,
         settings.law.p,
@@ -196,6 +227,7 @@ pub extern "C" fn winder_give_up(
     let ok = parts_ok(
         settings.boxes,
         settings.own,
+        settings.quorums,
         settings.law.n,
         settings.law.m,
         settings.law.p,
@@ -216,7 +248,8 @@ pub extern "C" fn winder_give_up(
     let n = settings.law.n;
     let m = settings.law.m;
     let held = held_at(replica, SETTINGS);
-    let given = fit::give_up(settings.boxes, settings.own, n, m, held, frame);
+    let quorums = settings.quorums;
+    let given = fit::give_up(settings.boxes, settings.own, quorums, n, m, held, frame);
     leave(given, replica, lengths)
 }
 
@@ -241,6 +274,7 @@ pub extern "C" fn winder_arrive(
     let ok = parts_ok(
         settings.boxes,
         settings.own,
+        settings.quorums,
         settings.law.n,
         settings.law.m,
         settings.law.p,
@@ -262,6 +296,7 @@ pub extern "C" fn winder_arrive(
     let given = fit::arrive(
         settings.boxes,
         settings.own,
+        settings.quorums,
         settings.law.n,
         settings.law.m,
         settings.law.p,

@@ -1,11 +1,12 @@
 /*
  * box: one controller box. It is made fresh, or returns from its record after a power cycle; then it takes events until it is killed.
  *
- *   box make|return READY OWN FIRST PERIOD RECORDS LOG in-order|sends-first DRIVE BOX1 BOX2 BOX3
+ *   box make|return READY OWN FIRST PERIOD RECORDS LOG in-order|sends-first DECIDE PROPOSE DRIVE BOX1 BOX2 BOX3
  *
  * READY is the instant at which it has booted, 0 for at once; FIRST and PERIOD are those of the clock. RECORDS is the folder of its record,
- * LOG its log; DRIVE and BOX1 to BOX3 are addresses. The box gets frames at the first socket handed over, and what its transmitter sends at
- * the second.
+ * LOG its log; DECIDE and PROPOSE are the boxes needed to decide, and heard before a new coordinator proposes: a box that returns has those
+ * of its record. DRIVE and BOX1 to BOX3 are addresses. The box gets frames at the first socket handed over, and what its transmitter sends
+ * at the second.
  */
 #define _POSIX_C_SOURCE 200809L
 #include <fcntl.h>
@@ -21,12 +22,12 @@
 #include "timer.h"
 #include "word.h"
 
-enum { VERB = 1, READY, OWN, FIRST, CLOCK_PERIOD, RECORDS, LOG, ORDER, DRIVE, BOX_1, WORDS = BOX_1 + BOXES };
+enum { VERB = 1, READY, OWN, FIRST, CLOCK_PERIOD, RECORDS, LOG, ORDER, TO_DECIDE, TO_PROPOSE, DRIVE, BOX_1, WORDS = BOX_1 + BOXES };
 
 static struct Box box_of(char **words)
 {
     struct Box box = {
-        .own = (uint8_t)number_in(words[OWN]),
+        .own = byte_in(words[OWN]),
         .clock = {.first = number_in(words[FIRST]), .period = number_in(words[CLOCK_PERIOD])},
         .sends_first = strcmp(words[ORDER], "sends-first") == 0,
         .folder = open(words[RECORDS], O_RDONLY),
@@ -44,11 +45,12 @@ static struct Box box_of(char **words)
 }
 
 /* The record is stored before the first event, so that a box which is killed at once has one. */
-static void make(struct Box *box)
+static void make(struct Box *box, uint8_t to_decide, uint8_t to_propose)
 {
     uint8_t record[WINDER_RECORD];
     struct Controller controller = controller_at_start();
-    need(winder_make_with(&controller.law, controller.state, BOXES, box->own, record, sizeof record) == 0, "making was refused");
+    need(winder_make_with(&controller.law, controller.state, BOXES, box->own, to_decide, to_propose, record, sizeof record) == 0,
+         "making was refused");
     need(store(box->folder, box->own, record), "the record of a fresh box was not stored");
     need(winder_tickets(record, sizeof record, ASKED_OF(box)) == 0, "tickets were refused");
     journal_made(box, &controller.law, controller.state);
@@ -123,12 +125,12 @@ static void take_events(struct Box *box)
 
 int main(int count, char **words)
 {
-    need(count == WORDS, "usage: box make|return READY OWN FIRST PERIOD RECORDS LOG in-order|sends-first DRIVE BOX1 BOX2 BOX3");
+    need(count == WORDS, "usage: box make|return READY OWN FIRST PERIOD RECORDS LOG in-order|sends-first DECIDE PROPOSE DRIVE BOX1 BOX2 BOX3");
     struct Box box = box_of(words);
     end_in_time(box.clock.period);
     sleep_until(number_in(words[READY]));
     if (strcmp(words[VERB], "make") == 0) {
-        make(&box);
+        make(&box, byte_in(words[TO_DECIDE]), byte_in(words[TO_PROPOSE]));
     } else {
         come_back(&box);
     }

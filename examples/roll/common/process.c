@@ -35,6 +35,13 @@ int64_t number_in(const char *word)
     return number;
 }
 
+uint8_t byte_in(const char *word)
+{
+    int64_t number = number_in(word);
+    need(number <= UINT8_MAX, "a number is above 255");
+    return (uint8_t)number;
+}
+
 struct sockaddr_in address_in(const char *word)
 {
     struct sockaddr_in address = {.sin_family = AF_INET};

@@ -17,8 +17,9 @@ void need(int holds, const char *what);
 /* A process ends by itself, whatever becomes of the others: after the time of the longest roll, by the clock's period. */
 void end_in_time(int64_t period);
 
-/* Words of the command line: a number from 0 on, and HOST:PORT with the host in numbers. */
+/* Words of the command line: a number from 0 on, one up to 255, and HOST:PORT with the host in numbers. */
 int64_t number_in(const char *word);
+uint8_t byte_in(const char *word);
 struct sockaddr_in address_in(const char *word);
 
 /* A datagram that cannot be sent is a lost one. */

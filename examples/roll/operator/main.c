@@ -2,9 +2,10 @@
  * operator: winds one roll. It starts the plant, the network and the boxes, unplugs boxes and plugs them in again by a seed, and ends when
  * the roll is wound.
  *
- *   operator SEED PERIOD PROGRAMS RECORDS LOGS in-order|sends-first LOST DOUBLED DELAYED REORDERED
+ *   operator SEED PERIOD PROGRAMS RECORDS LOGS in-order|sends-first DECIDE PROPOSE LOST DOUBLED DELAYED REORDERED
  *
- * PERIOD is the clock's, in nanoseconds; PROGRAMS, RECORDS and LOGS are folders; the rates of the network are in so many of a thousand.
+ * PERIOD is the clock's, in nanoseconds; PROGRAMS, RECORDS and LOGS are folders; DECIDE and PROPOSE are the quorums of all boxes; the rates
+ * of the network are in so many of a thousand.
  */
 #define _POSIX_C_SOURCE 200809L
 #include <inttypes.h>
@@ -19,7 +20,7 @@
 #include "schedule.h"
 #include "sockets.h"
 
-enum { SEED = 1, CLOCK_PERIOD, PROGRAMS, RECORDS, LOGS, ORDER, LOST, DOUBLED, DELAYED, REORDERED, WORDS };
+enum { SEED = 1, CLOCK_PERIOD, PROGRAMS, RECORDS, LOGS, ORDER, TO_DECIDE, TO_PROPOSE, LOST, DOUBLED, DELAYED, REORDERED, WORDS };
 
 #define HEAD_START 300000000 /* ns, until all processes wait for the first period */
 #define BOOT 10              /* periods that a box takes from its power to its return */
@@ -72,7 +73,8 @@ static void start_box(struct Roll *roll, int box, char *verb, int64_t ready)
     snprintf(booted, sizeof booted, "%" PRId64, ready);
     snprintf(records, sizeof records, "%s/%d", roll->words[RECORDS], box);
     snprintf(log, sizeof log, "%s/box-%d.log", roll->words[LOGS], box);
-    char *words[] = {"box", verb, booted, own, roll->first, roll->words[CLOCK_PERIOD], records, log, roll->words[ORDER],
+    char **given = roll->words;
+    char *words[] = {"box", verb, booted, own, roll->first, given[CLOCK_PERIOD], records, log, given[ORDER], given[TO_DECIDE], given[TO_PROPOSE],
                      sockets->drive.address, out[0].address, out[1].address, out[2].address, NULL};
     roll->boxes[box] = start(roll, words, (int[]){sockets->frames[box - 1].descriptor, sockets->samples[box - 1].descriptor}, 2);
 }
@@ -117,7 +119,7 @@ static struct Roll roll_of(char **words)
 
 int main(int count, char **words)
 {
-    need(count == WORDS, "usage: operator SEED PERIOD PROGRAMS RECORDS LOGS in-order|sends-first LOST DOUBLED DELAYED REORDERED");
+    need(count == WORDS, "usage: operator SEED PERIOD PROGRAMS RECORDS LOGS in-order|sends-first DECIDE PROPOSE LOST DOUBLED DELAYED REORDERED");
     setvbuf(stdout, NULL, _IOLBF, 0); /* a line at a time, for whoever looks on */
     struct Move moves[MOVES];
     struct Roll roll = roll_of(words);

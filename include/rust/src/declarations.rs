@@ -92,6 +92,8 @@ extern "C" {
         start: &[i32; 6],
         boxes: u8,
         own: u8,
+        to_decide: u8,
+        to_propose: u8,
         replica: *mut u8,
         replica_length: usize,
     ) -> u32;

@@ -14,7 +14,7 @@ use declarations::{
 };
 
 /// The version of these declarations: major version times 100, and minor version.
-pub const VERSION: u32 = 200;
+pub const VERSION: u32 = 300;
 
 /// The version of the archive.
 #[inline]
@@ -221,9 +221,18 @@ pub const MISSED_MAX: u32 = 10000;
 /// What a step gives where the event was ignored.
 pub const IGNORED: u32 = 256;
 
-/// A fresh replica of box `own` in a group of `boxes`: its record, at the start of an area. Gives 0 or a refusal's number.
+/// A fresh replica of box `own` in a group of `boxes`, of which `to_decide` are needed to decide and `to_propose` are heard before a new
+/// coordinator proposes: its record, at the start of an area. Gives 0 or a refusal's number.
 #[inline]
-pub fn make(settings: &Settings, start: &[i32; 6], boxes: u8, own: u8, replica: &mut [u8]) -> u32 {
+pub fn make(
+    settings: &Settings,
+    start: &[i32; 6],
+    boxes: u8,
+    own: u8,
+    to_decide: u8,
+    to_propose: u8,
+    replica: &mut [u8],
+) -> u32 {
     let Settings {
         n,
         m,
@@ -235,22 +244,11 @@ pub fn make(settings: &Settings, start: &[i32; 6], boxes: u8, own: u8, replica: 
         low,
         high,
     } = settings;
+    let (area, length) = (replica.as_mut_ptr(), replica.len());
     unsafe {
         winder_make(
-            *n,
-            *m,
-            *p,
-            a,
-            l,
-            c,
-            k,
-            low,
-            high,
-            start,
-            boxes,
-            own,
-            replica.as_mut_ptr(),
-            replica.len(),
+            *n, *m, *p, a, l, c, k, low, high, start, boxes, own, to_decide, to_propose, area,
+            length,
         )
     }
 }

@@ -125,7 +125,7 @@ pub fn on_record(asked: &Asked, areas: Areas) -> u32 {
     match asked {
         Asked::Make(making) => {
             let settings = sized(making.sizes, &making.settings);
-            calls::make(making.boxes, making.own, settings, area)
+            calls::make(making.boxes, making.own, making.quorums, settings, area)
         }
         Asked::Tick { readings } => {
             let (kinds, bits) = numbers_of(readings);

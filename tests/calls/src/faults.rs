@@ -6,7 +6,8 @@ use std::process::Command;
 
 use second::fault::{Fault, CALL_NAMES, FRAME_NAMES, LAW_MARK_NAMES, LAW_NAMES, MARK_NAMES};
 use second::fault::{NAMES, PAGE_NAMES, READING_NAMES, RECORD_NAMES, ROUNDING_NAMES};
-use second::fault::{STEP_NAMES, TICKET_CALL_NAMES, TICKET_NAMES, VARIABLE};
+use second::fault::{QUORUM_CALL_NAMES, QUORUM_NAMES, STEP_NAMES};
+use second::fault::{TICKET_CALL_NAMES, TICKET_NAMES, VARIABLE};
 
 use crate::{frames, law, lists, pages, records, singles, steps, tickets};
 
@@ -30,14 +31,17 @@ pub fn table(seed: u64) -> Result<(), String> {
         & rows(seed, "steps", &READING_NAMES)?
         & rows(seed, "steps", &ROUNDING_NAMES)?
         & rows(seed, "steps", &of_marks())?
+        & rows(seed, "steps", &of_quorums(&OF_RECORDS))?
         & rows(seed, "lists", &of_lists())?
         & rows(seed, "pages", &of_pages())?
         & rows(seed, "records", &RECORD_NAMES)?
         & rows(seed, "records", &CALL_NAMES)?
         & rows(seed, "records", &of_marks())?
+        & rows(seed, "records", &of_quorums(&OF_HANDED_IN))?
         & rows(seed, "tickets", &of_tickets())?
         & rows(seed, "tickets", &TICKET_CALL_NAMES)?
-        & rows(seed, "tickets", &of_marks())?;
+        & rows(seed, "tickets", &of_marks())?
+        & rows(seed, "tickets", &of_quorums(&OF_MAKING))?;
     match all_found {
         true => Ok(()),
         false => Err("a planted fault was not found".to_string()),
@@ -81,6 +85,23 @@ fn of_pages() -> Vec<Named> {
 fn of_marks() -> Vec<Named> {
     let others = [Fault::LastMarkKept, Fault::EstimatesUpdateMarked];
     without(&MARK_NAMES, &others)
+}
+
+/// Of quorums: what only a record can show.
+const OF_RECORDS: [Fault; 2] = [Fault::RecordQuorumsExchanged, Fault::FirstVersionTaken];
+
+/// What only a replica handed in can show: 15 is before it on a record.
+const OF_HANDED_IN: [Fault; 1] = [Fault::QuorumsNotInStep];
+
+/// The same, and what only making settings that are refused can show.
+const OF_MAKING: [Fault; 2] = [Fault::QuorumsNotInStep, Fault::QuorumsBeforeLimits];
+
+/// The faults of quorums but for these, and for the one of the rig's first
+/// line.
+fn of_quorums(others: &[Fault]) -> Vec<Named> {
+    let faults = [&QUORUM_NAMES[..], &QUORUM_CALL_NAMES].concat();
+    let of_calls = without(&faults, &[Fault::QuorumsPresumed]);
+    without(&of_calls, others)
 }
 
 /// The faults of tickets that areas can show: an area has no place for what a

@@ -2,6 +2,7 @@
 //! from them.
 
 use second::law::Settings;
+use second::replica::Quorums;
 
 use crate::areas::{Fields, Sizes};
 use crate::handed_readings::numbers_of;
@@ -91,7 +92,11 @@ pub fn on_record(asked: &Asked, areas: Areas) -> u32 {
         Asked::Make(making) => {
             let settings = sized(making.sizes, &making.settings);
             let start = &making.settings.start;
-            winder::make(&settings, start, making.boxes, making.own, area)
+            let Quorums {
+                to_decide: a,
+                to_propose: b,
+            } = making.quorums;
+            winder::make(&settings, start, making.boxes, making.own, a, b, area)
         }
         Asked::Tick { readings } => {
             let (kinds, bits) = numbers_of(readings);

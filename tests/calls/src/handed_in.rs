@@ -1,12 +1,13 @@
 //! Replicas handed in with anything in them, in the areas of crate steps.
 
 use second::law::Settings;
-use second::replica::coordinator;
+use second::replica::{coordinator, Quorums};
 use steps::Held;
 
 use crate::areas::Sizes;
 use crate::law_call;
 use crate::prng::Prng;
+use crate::quorums;
 use crate::values::{byte, counter, mark, value};
 
 #[derive(Clone, Copy, Debug)]
@@ -14,6 +15,7 @@ pub struct HandedIn {
     /// As handed in, in their ranges or not.
     pub boxes: u8,
     pub own: u8,
+    pub quorums: Quorums,
     pub sizes: Sizes,
     /// Tables, limits and start; its sizes are not looked at.
     pub settings: Settings,
@@ -41,10 +43,12 @@ pub fn make(prng: &mut Prng) -> HandedIn {
         n: call.sizes.n.clamp(1, 6),
         m: call.sizes.m.clamp(1, 4),
     };
+    let quorums = quorums::perhaps_refused(&mut prng.apart(), boxes);
     let (boxes, own) = perhaps_no_group(prng, boxes, own);
     HandedIn {
         boxes,
         own,
+        quorums,
         sizes: call.sizes,
         settings: Settings {
             start: [(); 6].map(|()| value(prng)),

@@ -39,6 +39,10 @@ mod page_lists;
 mod pages;
 #[path = "../../compare/src/prng.rs"]
 mod prng;
+mod quorum_bytes;
+mod quorum_pairs;
+mod quorum_reach;
+mod quorums;
 mod reach;
 mod record_calls;
 mod record_counts;
@@ -111,16 +115,19 @@ fn run(words: &[&str]) -> Result<(), String> {
         ["law", count, seed] => compare("law calls", law::compare, count, seed),
         ["singles", "all"] => singles::compare_all(),
         ["singles", count, seed] => compare("single conversions", singles::compare, count, seed),
-        ["steps", count, seed] => compare("steps", steps::compare, count, seed),
+        ["steps", count, seed] => counted("steps", steps::compare, count, seed)?.check(),
         ["lists", count, seed] => compare("lists", lists::compare, count, seed),
         ["pages", count, seed] => compare("pages", pages::compare, count, seed),
-        ["records", count, seed] => compare("calls on records", records::compare, count, seed),
-        ["tickets", count, seed] => compare(
+        ["records", count, seed] => {
+            counted("calls on records", records::compare, count, seed)?.check()
+        }
+        ["tickets", count, seed] => counted(
             "calls on replicas with tickets",
             tickets::compare,
             count,
             seed,
-        ),
+        )?
+        .check(),
         ["faults", seed] => faults::table(number(seed)?),
         ["search", calls, seed] => {
             second::fault::plant_from_environment()?;
@@ -138,6 +145,16 @@ fn compare<C: Default + Display>(
     count: &str,
     seed: &str,
 ) -> Result<(), String> {
+    counted(what, compare_one, count, seed).map(drop)
+}
+
+/// The same, and gives what was counted.
+fn counted<C: Default + Display>(
+    what: &str,
+    compare_one: fn(u64, usize, &mut C) -> Result<(), String>,
+    count: &str,
+    seed: &str,
+) -> Result<C, String> {
     let (count, seed) = (number(count)?, number(seed)?);
     let mut counts = C::default();
     for number in 1..=count {
@@ -145,7 +162,7 @@ fn compare<C: Default + Display>(
             .map_err(|difference| format!("seed {seed}, number {number}: {difference}"))?;
     }
     print!("{count} {what} of seed {seed}: no difference\n{counts}");
-    Ok(())
+    Ok(counts)
 }
 
 fn number<T: FromStr>(word: &str) -> Result<T, String> {

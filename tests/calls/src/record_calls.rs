@@ -3,6 +3,7 @@
 use std::fmt;
 
 use second::law::Settings;
+use second::replica::Quorums;
 use winder::RECORD;
 
 use crate::areas::{Sizes, PATTERN};
@@ -44,6 +45,7 @@ pub enum Asked {
 pub struct Making {
     pub boxes: u8,
     pub own: u8,
+    pub quorums: Quorums,
     pub sizes: Sizes,
     /// Tables, limits and start; its sizes are not looked at.
     pub settings: Settings,

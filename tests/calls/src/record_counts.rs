@@ -5,10 +5,14 @@ use std::fmt;
 use winder::IGNORED;
 
 use crate::issued::Issued;
+use crate::quorum_bytes::QuorumBytes;
+use crate::quorum_pairs::Pairs;
+use crate::quorum_reach::{self, Reached};
 use crate::record_calls::{Asked, Call, Left};
-use crate::record_damage::DAMAGES;
-use crate::record_layout::{BOXES, M, N, P};
-use crate::record_tables::{CallTest, DONE, GROUNDS, HANDED};
+use crate::record_damage::{DAMAGES, OF_QUORUMS};
+use crate::record_group::Group;
+use crate::record_layout::{quorums_of, BOXES, M, N, P};
+use crate::record_tables::{arrived, sent, CallTest, DONE, GROUNDS, HANDED};
 use crate::report::write_row;
 
 /// The calls, in the order of `Counts::answers`.
@@ -23,7 +27,7 @@ const CALLS: [&str; 6] = [
 
 /// Answers that the header names for each call: 0 is done, 17 is ignored.
 const ANSWERS: [&[usize]; 6] = [
-    &[0, 1, 2, 3, 4, 5],
+    &[0, 1, 2, 3, 4, 18, 5],
     &[0, 5, 6, 7, 12, 15],
     &[0, 17, 5, 12, 15],
     &[0, 17, 5, 8, 9, 10, 11, 15],
@@ -44,13 +48,17 @@ pub struct Counts {
     /// Calls of the groups that the records come from.
     of_groups: usize,
     issued_by_groups: Issued,
+    reached_by_groups: Reached,
     /// By call and answer; ignored is at place 17.
-    answers: [[usize; 18]; 6],
+    answers: [[usize; 19]; 6],
     damages: ByDamage,
     sizes: [[usize; 10]; SIZES.len()],
     handed: [usize; HANDED.len()],
     handed_done: [usize; HANDED.len()],
     done: [usize; DONE.len()],
+    quorum_bytes: QuorumBytes,
+    pairs: Pairs,
+    reached: Reached,
     issued: Issued,
     grounds: [usize; GROUNDS.len()],
 }
@@ -66,9 +74,10 @@ impl Default for ByDamage {
 }
 
 impl Counts {
-    pub fn count_group(&mut self, calls: usize, issued: Issued) {
-        self.of_groups += calls;
-        self.issued_by_groups.add(issued);
+    pub fn count_group(&mut self, group: &Group) {
+        self.of_groups += group.calls;
+        self.issued_by_groups.add(group.issued);
+        self.reached_by_groups.add(group.reached);
     }
 
     /// A call, with what was done to its record: the place in `DAMAGES`.
@@ -89,6 +98,7 @@ impl Counts {
         count_each(&mut self.grounds, &GROUNDS, call, left);
         if left.answer == 0 {
             count_each(&mut self.done, &DONE, call, left);
+            self.count_quorums(call, left);
             self.issued.count(&left.command, left.lengths[1]);
         }
         if name != 0 {
@@ -96,10 +106,22 @@ impl Counts {
         }
     }
 
+    fn count_quorums(&mut self, call: &Call, left: &Left) {
+        if call.asked.is_step() {
+            let (boxes, quorums) = (call.record[BOXES], quorums_of(&call.record));
+            self.pairs.count(boxes, quorums);
+            self.reached
+                .count(boxes, quorums, arrived(call), sent(left));
+        }
+    }
+
     fn count_record(&mut self, call: &Call, damage: usize, left: &Left) {
         let (count, refused) = &mut self.damages.0[damage];
         *count += 1;
         *refused += usize::from(left.answer == 15);
+        if [0, OF_QUORUMS].contains(&damage) {
+            self.quorum_bytes.count(&call.record);
+        }
         if damage != 0 {
             return;
         }
@@ -112,6 +134,13 @@ impl Counts {
         }
     }
 
+    /// An error if there is an allowed pair of quorums without a step, or a
+    /// byte 7 that no record had.
+    pub fn check(&self) -> Result<(), String> {
+        self.pairs.check()?;
+        self.quorum_bytes.check()
+    }
+
     /// Whether each answer that a call can come to, each damage, each size,
     /// each byte 2 and each row of the tables was met.
     #[cfg(test)]
@@ -121,10 +150,12 @@ impl Counts {
         calls.all(|(answers, possible)| possible.iter().all(|&answer| answers[answer] > 0))
             && sizes.all(|(counts, (_, _, [least, most]))| !counts[least..=most].contains(&0))
             && self.damages.0.iter().all(|&(count, _)| count > 0)
+            && self.pairs.check().is_ok()
             && [
                 &self.handed[..],
                 &self.handed_done,
                 &self.done,
+                &self.reached_by_groups.0,
                 &self.issued.0,
                 &self.issued_by_groups.0,
                 &self.grounds,
@@ -141,6 +172,7 @@ impl Counts {
         for (counts, (name, _, [least, most])) in self.sizes.iter().zip(SIZES) {
             writeln!(out, "whole, {name}: {:?}", &counts[least..=most])?;
         }
+        self.quorum_bytes.write(out)?;
         writeln!(out, "{:<38}{:>9}{:>12}", "whole", "calls", "done")?;
         for (place, (name, _)) in HANDED.iter().enumerate() {
             let (count, done) = (self.handed[place], self.handed_done[place]);
@@ -181,6 +213,9 @@ impl fmt::Display for Counts {
         for ((name, _), &count) in DONE.iter().zip(&self.done) {
             write_row(out, &format!("  {name}"), count)?;
         }
+        let reached = [("before", self.reached_by_groups), ("calls", self.reached)];
+        quorum_reach::write(out, &reached)?;
+        self.pairs.write(out)?;
         self.issued.write(out, "commands issued")?;
         writeln!(out, "grounds and areas")?;
         for ((name, _), &count) in GROUNDS.iter().zip(&self.grounds) {

@@ -19,13 +19,16 @@ pub struct Damage {
 }
 
 /// The damages of a field: the length of the record stays.
-pub const OF_FIELDS: Range<usize> = 4..43;
+pub const OF_FIELDS: Range<usize> = 4..44;
+
+/// The damage of the quorums.
+pub const OF_QUORUMS: usize = 12;
 
 /// The damages of a field that a step changes.
-pub const OF_STEPPED: Range<usize> = 19..42;
+pub const OF_STEPPED: Range<usize> = 20..43;
 
 /// Every damage.
-pub const DAMAGES: [Damage; 43] = [
+pub const DAMAGES: [Damage; 44] = [
     any("whole", |_, _| {}),
     any("a length of 615", |_, record| record.truncate(615)),
     any("a length of 617", |prng, record| record.push(byte(prng))),
@@ -34,7 +37,11 @@ pub const DAMAGES: [Damage; 43] = [
         record[LETTER] = prng.pick(b"\0rSQ\xff")
     }),
     any("version", |prng, record| {
-        record[VERSION] = prng.pick(&[0, 2, 255])
+        record[VERSION] = prng.pick(&[0, 1, 3, 255])
+    }),
+    any("a record of version 1", |_, record| {
+        record[VERSION] = 1;
+        record[QUORUMS] = 0;
     }),
     any("N", |prng, record| {
         record[BOXES] = prng.pick(&[0, 2, 3, 9, 10, 255]);
@@ -45,9 +52,7 @@ pub const DAMAGES: [Damage; 43] = [
     any("n", |prng, record| record[N] = size(prng, 6)),
     any("m", |prng, record| record[M] = size(prng, 4)),
     any("p", |prng, record| record[P] = size(prng, 4)),
-    any("byte 7", |prng, record| {
-        record[ZERO] = prng.pick(&[1, 128, 255])
-    }),
+    any("byte 7", |prng, record| record[QUORUMS] = byte(prng)),
     any("a coefficient of A", |prng, record| {
         let Sizes { n, .. } = sizes(record);
         coefficient(prng, record, A, [n, n], [6, 6]);
@@ -177,7 +182,7 @@ pub fn damage(prng: &mut Prng, record: &mut Record) -> usize {
 
 /// The same with one of these damages, unless the record is without the field.
 pub fn damage_one(prng: &mut Prng, record: &mut Record, places: Range<usize>) -> usize {
-    let place = places.start + prng.below(places.len());
+    let place = drawn(prng, places);
     let Damage { has, damage, .. } = DAMAGES[place];
     match has(record) {
         true => {
@@ -188,6 +193,14 @@ pub fn damage_one(prng: &mut Prng, record: &mut Record, places: Range<usize>) ->
     }
 }
 
+/// The quorums come more often, so that their byte has every value.
+fn drawn(prng: &mut Prng, places: Range<usize>) -> usize {
+    match places.contains(&OF_QUORUMS) && prng.chance(15) {
+        true => OF_QUORUMS,
+        false => places.start + prng.below(places.len()),
+    }
+}
+
 #[cfg(test)]
 mod tests {
     use super::*;
@@ -195,12 +208,13 @@ mod tests {
 
     /// Those that leave a record, and those that may.
     const HARMLESS: [&str; 3] = ["whole", "the starting state", "a state below n"];
-    const PERHAPS: [&str; 22] = [
+    const PERHAPS: [&str; 23] = [
         "N",
         "own number",
         "n",
         "m",
         "p",
+        "byte 7",
         "a coefficient of A",
         "a coefficient of L",
         "a coefficient of C",
@@ -225,6 +239,7 @@ mod tests {
         let ends = |places: Range<usize>| [places.start, places.end - 1].map(|at| DAMAGES[at].name);
         assert_eq!(ends(OF_FIELDS), ["letter", "a byte at random"]);
         assert_eq!(ends(OF_STEPPED), ["period", "best: a value from m on"]);
+        assert_eq!(DAMAGES[OF_QUORUMS].name, "byte 7");
     }
 
     #[test]

@@ -36,6 +36,7 @@ fn making(prng: &mut Prng) -> Asked {
     Asked::Make(Box::new(Making {
         boxes: handed_in.boxes,
         own: handed_in.own,
+        quorums: handed_in.quorums,
         sizes: handed_in.sizes,
         settings: handed_in.settings,
     }))

@@ -7,8 +7,11 @@ use crate::handed_readings;
 use crate::issued::Issued;
 use crate::law_call;
 use crate::prng::Prng;
+use crate::quorum_reach::Reached;
+use crate::quorums;
 use crate::record_calls::{called_by_both, Asked, Call, Making, ENOUGH};
-use crate::record_layout::{sizes, Record, MODE};
+use crate::record_layout::{quorums_of, sizes, Record, MODE};
+use crate::record_tables::{arrived, sent};
 use crate::traffic::Traffic;
 
 /// A life has fewer calls than so many for each box of the group.
@@ -24,6 +27,8 @@ pub struct Group {
     pub calls: usize,
     /// Commands that it issued.
     pub issued: Issued,
+    /// Quorums that it reached.
+    pub reached: Reached,
 }
 
 impl Group {
@@ -46,18 +51,21 @@ impl Group {
     fn make(prng: &mut Prng) -> Result<Group, String> {
         let (sizes, settings) = law_call::whole_settings(prng);
         let boxes = 3 + prng.below(7) as u8;
+        let quorums = quorums::allowed(&mut prng.apart(), boxes);
         let mut group = Group {
             records: vec![],
             traffic: Traffic::default(),
             left: boxes.into(),
             calls: 0,
             issued: Issued::default(),
+            reached: Reached::default(),
         };
         for own in 1..=boxes {
             group.records.push(vec![]);
             let making = Making {
                 boxes,
                 own,
+                quorums,
                 sizes,
                 settings,
             };
@@ -87,6 +95,9 @@ impl Group {
                     let boxes = self.records.len();
                     self.traffic.send(boxes, place, left.sent());
                     self.issued.count(&left.command, left.lengths[1]);
+                    let quorums = quorums_of(&call.record);
+                    self.reached
+                        .count(boxes as u8, quorums, arrived(&call), sent(&left));
                 }
                 Ok(())
             }

@@ -1,6 +1,9 @@
 //! Where everything stands in a record (docs/RECORD.md), and its numbers.
 
+use second::replica::Quorums;
+
 use crate::areas::Sizes;
+use crate::quorums::are_allowed;
 
 /// A record, or bytes handed in as one.
 pub type Record = Vec<u8>;
@@ -12,7 +15,7 @@ pub const OWN: usize = 3;
 pub const N: usize = 4;
 pub const M: usize = 5;
 pub const P: usize = 6;
-pub const ZERO: usize = 7;
+pub const QUORUMS: usize = 7;
 
 pub const A: usize = 8;
 pub const L: usize = 152;
@@ -77,6 +80,18 @@ pub fn put_value(record: &mut [u8], at: usize, value: i32) {
 pub fn sizes(record: &[u8]) -> Sizes {
     let [n, m, p] = [N, M, P].map(|at| record[at].into());
     Sizes { n, m, p }
+}
+
+/// a in the four low bits, b in the four high ones.
+pub fn quorums_of(record: &[u8]) -> Quorums {
+    Quorums {
+        to_decide: record[QUORUMS] & 15,
+        to_propose: record[QUORUMS] >> 4,
+    }
+}
+
+pub fn has_allowed_quorums(record: &[u8]) -> bool {
+    are_allowed(record[BOXES], quorums_of(record))
 }
 
 #[cfg(test)]

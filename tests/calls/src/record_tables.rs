@@ -6,6 +6,7 @@ use second::replica::coordinator;
 use winder::{MISSED_MAX, RECORD};
 
 use crate::handed_readings::{Handed, COUNT, SINGLE};
+use crate::quorums::are_allowed;
 use crate::record_calls::{Asked, Call, Left, ENOUGH};
 use crate::record_layout::*;
 
@@ -74,7 +75,7 @@ pub const DONE: [(&str, CallTest); 21] = [
         matches!(call.asked, Asked::GiveUp) && sent(left) == 0
     }),
     ("Propose adopted", |call, _| arrived(call) == PROPOSE),
-    ("Ack entered, no majority", |call, left| {
+    ("Ack entered, fewer than a", |call, left| {
         arrived(call) == ACK && sent(left) == 0
     }),
     ("Ack: decided", |call, left| {
@@ -83,7 +84,7 @@ pub const DONE: [(&str, CallTest); 21] = [
     ("Decide: decided", |call, left| {
         arrived(call) == DECIDE && left.lengths[1] > 0
     }),
-    ("Estimate entered, no majority", |call, left| {
+    ("Estimate entered, fewer than b", |call, left| {
         arrived(call) == ESTIMATE && sent(left) == 0
     }),
     ("Estimate: the best held taken over", |call, left| {
@@ -113,9 +114,15 @@ pub const DONE: [(&str, CallTest); 21] = [
 ];
 
 /// Refused although something else is wrong too, and areas at their edges.
-pub const GROUNDS: [(&str, CallTest); 7] = [
+pub const GROUNDS: [(&str, CallTest); 9] = [
     ("1 to 4, and an area too short", |call, left| {
         (1..=4).contains(&left.answer) && is_short(call)
+    }),
+    ("1 to 4, and a pair for 18", |call, left| {
+        (1..=4).contains(&left.answer) && makes_refused_pair(call)
+    }),
+    ("18, and an area too short", |call, left| {
+        left.answer == 18 && is_short(call)
     }),
     ("15, and an area too short", |call, left| {
         left.answer == 15 && is_short(call)
@@ -160,6 +167,14 @@ fn is_short(call: &Call) -> bool {
     lent(call).any(|(length, enough)| length < enough)
 }
 
+/// Whether a replica is to be made with quorums that 18 refuses.
+fn makes_refused_pair(call: &Call) -> bool {
+    match &call.asked {
+        Asked::Make(making) => !are_allowed(making.boxes, making.quorums),
+        _ => false,
+    }
+}
+
 fn is_tick(call: &Call) -> bool {
     matches!(call.asked, Asked::Tick { .. })
 }
@@ -174,7 +189,7 @@ fn below(call: &Call) -> impl Iterator<Item = Handed> + '_ {
 }
 
 /// The kind of the frame that arrived; 0 where none did.
-fn arrived(call: &Call) -> u8 {
+pub fn arrived(call: &Call) -> u8 {
     match &call.asked {
         Asked::Arrive { bytes } => bytes.first().copied().unwrap_or(0),
         _ => 0,
@@ -182,7 +197,7 @@ fn arrived(call: &Call) -> u8 {
 }
 
 /// The kind of the frame that a step sent; 0 where none was.
-fn sent(left: &Left) -> u8 {
+pub fn sent(left: &Left) -> u8 {
     match left.lengths[0] {
         1..=RECORD => left.frame[0],
         _ => 0,

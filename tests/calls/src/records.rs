@@ -2,9 +2,12 @@
 //! of its records, whole or damaged, goes into one more call.
 
 use crate::prng::Prng;
+use crate::quorums;
 use crate::record_calls::{called_by_both, Asked, Call, Left};
 pub use crate::record_counts::Counts;
+use crate::record_damage::OF_QUORUMS;
 use crate::record_group::Group;
+use crate::record_layout::has_allowed_quorums;
 use crate::{record_damage, record_events};
 
 /// The call of one number. The error says what differs.
@@ -34,7 +37,8 @@ pub fn compare(seed: u64, number: usize, counts: &mut Counts) -> Result<(), Stri
         return Err(format!("a whole record is refused: {call:?}"));
     }
     check_given_back(&call, &left)?;
-    counts.count_group(group.calls, group.issued);
+    check_quorums(&call, damage, &left)?;
+    counts.count_group(&group);
     counts.count(&call, damage, &left);
     Ok(())
 }
@@ -44,6 +48,19 @@ fn check_given_back(call: &Call, left: &Left) -> Result<(), String> {
     let gives_back = matches!(call.asked, Asked::Record | Asked::Return { missed: 0 });
     match left.answer == 0 && gives_back && left.given(&call.asked) != call.record {
         true => Err(format!("{call:?}: another record: {left:?}")),
+        false => Ok(()),
+    }
+}
+
+/// Making is refused by 18 where it should be; on a record that is whole but for
+/// its quorums it is 15.
+fn check_quorums(call: &Call, damage: usize, left: &Left) -> Result<(), String> {
+    if let Asked::Make(making) = &call.asked {
+        return quorums::check_answer(making.boxes, making.quorums, left.answer);
+    }
+    let is_refused = left.answer == 15;
+    match damage == OF_QUORUMS && is_refused == has_allowed_quorums(&call.record) {
+        true => Err(format!("{call:?}: its quorums are answered by {left:?}")),
         false => Ok(()),
     }
 }

@@ -17,8 +17,8 @@ pub fn alike<T: fmt::Debug + PartialEq>(
     }
 }
 
-/// By answer; no refusal's number is above 17.
-pub type Answers = [usize; 18];
+/// By answer; no refusal's number is above 18.
+pub type Answers = [usize; 19];
 
 pub fn write_row(out: &mut fmt::Formatter<'_>, name: &str, count: usize) -> fmt::Result {
     writeln!(out, "{name:<38}{count:>9}")

@@ -13,12 +13,13 @@ pub fn settings_of(handed_in: &HandedIn) -> steps::Settings {
     let HandedIn {
         boxes,
         own,
+        quorums,
         sizes,
         settings,
         ..
     } = handed_in;
     steps::Settings {
-        group: [*boxes, *own],
+        group: [*boxes, *own, quorums.to_decide, quorums.to_propose],
         law: first::sized(*sizes, settings),
         start: settings.start,
     }
@@ -31,6 +32,7 @@ pub fn replica_of(handed_in: &HandedIn) -> Replica {
     Replica {
         boxes: handed_in.boxes,
         own: handed_in.own,
+        quorums: handed_in.quorums,
         settings: counterpart::sized(handed_in.sizes, &handed_in.settings),
         period,
         view,
@@ -95,6 +97,7 @@ pub fn handed_in_of(replica: &Replica) -> HandedIn {
     HandedIn {
         boxes,
         own,
+        quorums: replica.quorums,
         sizes: Sizes { n, m, p },
         settings,
         held: held_of(replica),

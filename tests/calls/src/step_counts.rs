@@ -5,9 +5,12 @@ use std::fmt;
 use steps::IGNORED;
 
 use crate::events::Event;
+use crate::handed_in::HandedIn;
 use crate::issued::Issued;
+use crate::quorum_pairs::Pairs;
+use crate::quorum_reach::{self, Reached};
 use crate::report::write_row;
-use crate::step_tables::{StepTest, DONE, GROUNDS, ODD, READINGS};
+use crate::step_tables::{arrived, sent, StepTest, DONE, GROUNDS, ODD, ORDERS, READINGS};
 use crate::steps::{Call, Left};
 
 /// The events, in the order of `Counts::answers`.
@@ -15,21 +18,24 @@ const EVENTS: [&str; 4] = ["making", "ticks", "give-ups", "arrivals"];
 
 /// Answers that each event can come to: 0 is done, 13 is ignored.
 const ANSWERS: [&[usize]; 4] = [
-    &[0, 1, 2, 3, 4],
-    &[0, 1, 2, 3, 4, 5, 6, 7, 12],
-    &[0, 13, 1, 2, 3, 4, 5, 12],
-    &[0, 13, 1, 2, 3, 4, 5, 8, 9, 10, 11],
+    &[0, 1, 2, 3, 4, 18],
+    &[0, 1, 2, 3, 4, 18, 5, 6, 7, 12],
+    &[0, 13, 1, 2, 3, 4, 18, 5, 12],
+    &[0, 13, 1, 2, 3, 4, 18, 5, 8, 9, 10, 11],
 ];
 
 #[derive(Debug, Default)]
 pub struct Counts {
     /// By event and answer; ignored is at place 13.
-    answers: [[usize; 14]; 4],
+    answers: [[usize; 19]; 4],
     done: [usize; DONE.len()],
+    pairs: Pairs,
+    reached: Reached,
     issued: Issued,
     readings: [usize; READINGS.len()],
     /// Ignored on this ground and no other.
     grounds: [usize; GROUNDS.len()],
+    orders: [usize; ORDERS.len()],
     odd: [usize; ODD.len()],
     odd_done: [usize; ODD.len()],
 }
@@ -56,9 +62,21 @@ impl Counts {
         }
         if left.answer == 0 {
             count_each(&mut self.done, &DONE, call, left);
+            self.count_quorums(call, left);
             self.issued.count(&left.command, left.lengths[1]);
         }
         count_each(&mut self.readings, &READINGS, call, left);
+        count_each(&mut self.orders, &ORDERS, call, left);
+    }
+
+    /// Making is no step.
+    fn count_quorums(&mut self, call: &Call, left: &Left) {
+        if !matches!(call.event, Event::Make) {
+            let HandedIn { boxes, quorums, .. } = call.handed_in;
+            self.pairs.count(boxes, quorums);
+            self.reached
+                .count(boxes, quorums, arrived(call), sent(left));
+        }
     }
 
     fn count_ground(&mut self, call: &Call) {
@@ -69,17 +87,25 @@ impl Counts {
         }
     }
 
+    /// An error if there is an allowed pair of quorums without a step.
+    pub fn check(&self) -> Result<(), String> {
+        self.pairs.check()
+    }
+
     /// Whether each answer that an event can come to, each rule, each byte 2,
-    /// each ground for ignoring and each oddity was met.
+    /// each ground for ignoring, each order and each oddity was met.
     #[cfg(test)]
     pub fn are_everywhere(&self) -> bool {
         let mut events = self.answers.iter().zip(ANSWERS);
         events.all(|(answers, possible)| possible.iter().all(|&answer| answers[answer] > 0))
+            && self.pairs.check().is_ok()
             && [
                 &self.done[..],
+                &self.reached.0,
                 &self.issued.0,
                 &self.readings,
                 &self.grounds,
+                &self.orders,
                 &self.odd,
             ]
             .iter()
@@ -114,6 +140,8 @@ impl fmt::Display for Counts {
         for ((name, _), &count) in DONE.iter().zip(&self.done) {
             write_row(out, &format!("  {name}"), count)?;
         }
+        quorum_reach::write(out, &[("steps", self.reached)])?;
+        self.pairs.write(out)?;
         self.issued.write(out, "commands issued")?;
         writeln!(out, "readings of ticks")?;
         for ((name, _), &count) in READINGS.iter().zip(&self.readings) {
@@ -121,6 +149,10 @@ impl fmt::Display for Counts {
         }
         writeln!(out, "ignored on one ground alone")?;
         for ((name, _), &count) in GROUNDS.iter().zip(&self.grounds) {
+            write_row(out, &format!("  {name}"), count)?;
+        }
+        writeln!(out, "refused, and something else is wrong")?;
+        for ((name, _), &count) in ORDERS.iter().zip(&self.orders) {
             write_row(out, &format!("  {name}"), count)?;
         }
         writeln!(out, "{:<38}{:>9}{:>12}", "handed in", "steps", "done")?;

@@ -4,14 +4,15 @@
 use std::ops::Range;
 
 use second::frame::{self, Frame, ACK, DECIDE, ESTIMATE, PROPOSE};
-use second::replica::coordinator;
+use second::replica::{coordinator, Quorums};
 use steps::Held;
 
 use crate::damage::Damage;
 use crate::events::Event;
 use crate::handed_in::Fit;
 use crate::handed_readings::{Handed, COUNT, SINGLE};
-use crate::steps::{Call, Left};
+use crate::quorums::are_allowed;
+use crate::steps::{Call, Left, ENOUGH};
 
 pub type StepTest = fn(&Call, &Left) -> bool;
 
@@ -34,14 +35,14 @@ pub const DONE: [(&str, StepTest); 13] = [
         is_give_up(call) && sent(left) == 0
     }),
     ("Propose adopted", |call, _| arrived(call) == PROPOSE),
-    ("Ack entered, no majority", |call, left| {
+    ("Ack entered, fewer than a", |call, left| {
         arrived(call) == ACK && sent(left) == 0
     }),
     ("Ack: decided", |call, left| {
         arrived(call) == ACK && sent(left) == DECIDE
     }),
     ("Decide: decided", |call, _| arrived(call) == DECIDE),
-    ("Estimate entered, no majority", |call, left| {
+    ("Estimate entered, fewer than b", |call, left| {
         arrived(call) == ESTIMATE && sent(left) == 0
     }),
     ("Estimate: its own taken over", |call, left| {
@@ -111,8 +112,27 @@ pub const GROUNDS: [(&str, CallTest); 10] = [
     }),
 ];
 
+/// Refusals of settings that come before another: 18 after 4 and before 5.
+pub const ORDERS: [(&str, StepTest); 5] = [
+    ("1, and a pair for 18", |call, left| {
+        left.answer == 1 && !has_allowed_pair(call)
+    }),
+    ("2, and a pair for 18", |call, left| {
+        left.answer == 2 && !has_allowed_pair(call)
+    }),
+    ("3, and a pair for 18", |call, left| {
+        left.answer == 3 && !has_allowed_pair(call)
+    }),
+    ("4, and a pair for 18", |call, left| {
+        left.answer == 4 && !has_allowed_pair(call)
+    }),
+    ("18, and an area too short", |call, left| {
+        left.answer == 18 && (0..2).any(|area| call.lent[area] < ENOUGH[area])
+    }),
+];
+
 /// What replicas, areas and frames are handed in with.
-pub const ODD: [(&str, CallTest); 17] = [
+pub const ODD: [(&str, CallTest); 20] = [
     ("period 0", |call| period(call) == 0),
     ("period 4,294,967,295", |call| period(call) == u32::MAX),
     ("view 0", |call| view(call) == 0),
@@ -154,6 +174,15 @@ pub const ODD: [(&str, CallTest); 17] = [
         "damaged frames",
         |call| matches!(call.event, Event::Arrive { damage, .. } if damage != Damage::None),
     ),
+    ("a or b of 1, a + b above N", |call| {
+        numbers(call).contains(&1) && sum(call) > call.handed_in.boxes.into()
+    }),
+    ("a or b above N", |call| {
+        numbers(call).iter().any(|&a| a > call.handed_in.boxes)
+    }),
+    ("a + b of N, neither below 2", |call| {
+        numbers(call).iter().all(|&a| a >= 2) && sum(call) == call.handed_in.boxes.into()
+    }),
 ];
 
 fn held(call: &Call) -> &Held {
@@ -170,6 +199,23 @@ fn view(call: &Call) -> u32 {
 
 fn has_best(call: &Call) -> bool {
     held(call).marks[2] != 0
+}
+
+/// a and b.
+fn numbers(call: &Call) -> [u8; 2] {
+    let Quorums {
+        to_decide,
+        to_propose,
+    } = call.handed_in.quorums;
+    [to_decide, to_propose]
+}
+
+fn sum(call: &Call) -> u16 {
+    numbers(call).map(u16::from).iter().sum()
+}
+
+fn has_allowed_pair(call: &Call) -> bool {
+    are_allowed(call.handed_in.boxes, call.handed_in.quorums)
 }
 
 fn is_done(left: &Left) -> bool {
@@ -203,7 +249,7 @@ fn is_give_up(call: &Call) -> bool {
 }
 
 /// The kind of the frame that arrived; 0 where none did.
-fn arrived(call: &Call) -> u8 {
+pub fn arrived(call: &Call) -> u8 {
     match &call.event {
         Event::Arrive { bytes, .. } => bytes.first().copied().unwrap_or(0),
         _ => 0,
@@ -211,7 +257,7 @@ fn arrived(call: &Call) -> u8 {
 }
 
 /// The kind of the frame sent; 0 where none was.
-fn sent(left: &Left) -> u8 {
+pub fn sent(left: &Left) -> u8 {
     match left.lengths[0] {
         0 => 0,
         _ => left.frame[0],

@@ -1,6 +1,7 @@
 //! The comparison of steps: replicas handed in with anything in them.
 
-use second::replica::{Answer, Areas, Replica};
+use second::law::Settings;
+use second::replica::{Answer, Areas, Quorums, Replica};
 use steps::{Held, Lent, IGNORED};
 
 use crate::areas::PATTERN;
@@ -8,6 +9,7 @@ use crate::events::{self, Event};
 use crate::handed_in::{self, HandedIn};
 use crate::handed_readings::{numbers_of, row};
 use crate::prng::Prng;
+use crate::quorums;
 use crate::report::alike;
 use crate::step_areas::{held_of, replica_of, settings_of};
 pub use crate::step_counts::Counts;
@@ -16,7 +18,7 @@ pub use crate::step_counts::Counts;
 const LONGEST: [usize; 2] = [80, 30];
 
 /// Areas from these lengths on are not refused.
-const ENOUGH: [usize; 2] = [69, 24];
+pub const ENOUGH: [usize; 2] = [69, 24];
 
 /// Longer than any area lent, so that a byte written after one shows.
 const BUFFER: usize = 96;
@@ -49,6 +51,7 @@ pub fn compare(seed: u64, number: usize, counts: &mut Counts) -> Result<(), Stri
             "{call:?}: nothing was done, and yet there is {left:?}"
         ));
     }
+    quorums::check_answer(call.handed_in.boxes, call.handed_in.quorums, left.answer)?;
     counts.count(&call, &left);
     Ok(())
 }
@@ -140,8 +143,7 @@ fn second(call: &Call) -> Result<Left, String> {
         Event::GiveUp => handed_in.give_up(areas),
         Event::Arrive { bytes, .. } => handed_in.arrive(bytes, areas),
     };
-    let kept = (handed_in.boxes, handed_in.own, handed_in.settings);
-    if (replica.boxes, replica.own, replica.settings) != kept {
+    if kept(&replica) != kept(&handed_in) {
         return Err(format!("{call:?}: other settings: {replica:?}"));
     }
     left.answer = match step.answer {
@@ -154,10 +156,23 @@ fn second(call: &Call) -> Result<Left, String> {
     Ok(left)
 }
 
+/// What no step changes.
+fn kept(replica: &Replica) -> (u8, u8, Quorums, Settings) {
+    let Replica {
+        boxes,
+        own,
+        quorums,
+        settings,
+        ..
+    } = *replica;
+    (boxes, own, quorums, settings)
+}
+
 /// Making, as a step that gives the fresh replica; the one handed in where
 /// the settings are refused.
 fn made(handed_in: Replica) -> (Replica, second::replica::Step) {
-    let fresh = Replica::new(handed_in.boxes, handed_in.own, handed_in.settings);
+    let (boxes, own, quorums, settings) = kept(&handed_in);
+    let fresh = Replica::new(boxes, own, quorums, settings);
     let (replica, answer) = match fresh {
         Ok(replica) => (replica, Answer::Ok),
         Err(refusal) => (handed_in, Answer::Refused(refusal)),

@@ -4,10 +4,12 @@
 use winder::{IGNORED, RECORD, TICKETED};
 
 use crate::issued::Issued;
+use crate::quorum_reach::Reached;
 use crate::record_calls::{self, Asked, Lent, Making};
-use crate::record_layout::Record;
+use crate::record_layout::{quorums_of, Record, BOXES};
 use crate::ticket_calls::{called_by_both, Call, Event, Left, Name, Ticket};
 use crate::ticket_layout::{is_open, latest, Replica};
+use crate::ticket_tables::done;
 
 /// For every call of a box.
 pub const ENOUGH: Lent = Lent {
@@ -21,6 +23,8 @@ pub struct TicketBox {
     pub spent: Spent,
     /// Commands that its asks and its steps gave.
     pub issued: Issued,
+    /// Quorums that they reached.
+    pub reached: Reached,
 }
 
 /// The last ticket of each sort that is not to be taken any more.
@@ -50,6 +54,7 @@ impl TicketBox {
             stored,
             spent,
             issued: Issued::default(),
+            reached: Reached::default(),
         })
     }
 
@@ -143,6 +148,10 @@ impl TicketBox {
         let left = called_by_both(&call)?;
         self.replica.copy_from_slice(&left.replica[..TICKETED]);
         self.issued.count(&left.command, left.lengths[1]);
+        if let Some((arrived, sent)) = done(&call, &left) {
+            let (boxes, quorums) = (call.replica[BOXES], quorums_of(&call.replica));
+            self.reached.count(boxes, quorums, arrived, sent);
+        }
         Ok(left)
     }
 }

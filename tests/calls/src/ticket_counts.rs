@@ -5,14 +5,19 @@ use std::fmt;
 use winder::IGNORED;
 
 use crate::issued::{Issued, BYTES};
+use crate::quorum_bytes::QuorumBytes;
+use crate::quorum_pairs::Pairs;
+use crate::quorum_reach::{self, Reached};
+use crate::record_damage::OF_QUORUMS;
+use crate::record_layout::{quorums_of, BOXES};
 use crate::report::write_row;
 use crate::ticket_calls::{Call, Event, Left, Name};
 use crate::ticket_damage::Damage;
 use crate::ticket_damage_counts::ByDamage;
 use crate::ticket_events::TICKETS;
-use crate::ticket_group;
+use crate::ticket_group::{self, Group};
 use crate::ticket_layout::is_open;
-use crate::ticket_tables::{arrived, event, CallTest, DONE, GROUNDS, HANDED, OPENED};
+use crate::ticket_tables::{done, event, CallTest, DONE, GROUNDS, HANDED, OPENED};
 
 /// The calls, in the order of `Counts::answers`.
 const CALLS: [&str; 8] = [
@@ -27,7 +32,7 @@ const CALLS: [&str; 8] = [
 ];
 
 /// Where an ignored event is counted: no refusal has this number.
-const AS_IGNORED: usize = 18;
+const AS_IGNORED: usize = 19;
 
 /// Answers that the header names for each call. A tick is ignored only where it
 /// is asked, after the largest ticket.
@@ -46,6 +51,7 @@ const ANSWERS: [&[usize]; 8] = [
 pub struct Counts {
     of_groups: [usize; ticket_group::CALLS.len()],
     issued_by_groups: Issued,
+    reached_by_groups: Reached,
     answers: [[usize; AS_IGNORED + 1]; CALLS.len()],
     /// Asks that were held against their steps; those that were ok also
     /// against their commits.
@@ -56,6 +62,10 @@ pub struct Counts {
     tickets: [[usize; 2]; TICKETS.len()],
     /// Asked, and made.
     done: [[usize; 2]; DONE.len()],
+    quorum_bytes: QuorumBytes,
+    pairs: Pairs,
+    /// Asked, and made.
+    reached: [Reached; 2],
     /// The same of commands.
     issued: [Issued; 2],
     opened: [usize; OPENED.len()],
@@ -63,11 +73,12 @@ pub struct Counts {
 }
 
 impl Counts {
-    pub fn count_group(&mut self, calls: &[usize], issued: Issued) {
-        for (count, calls) in self.of_groups.iter_mut().zip(calls) {
+    pub fn count_group(&mut self, group: &Group) {
+        for (count, calls) in self.of_groups.iter_mut().zip(group.calls) {
             *count += calls;
         }
-        self.issued_by_groups.add(issued);
+        self.issued_by_groups.add(group.issued());
+        self.reached_by_groups.add(group.reached());
     }
 
     /// An ask that gave what its step gives.
@@ -86,6 +97,9 @@ impl Counts {
         let is_ticketed = !matches!(call.name, Name::Tickets);
         let is_open = call.replica.len() == winder::TICKETED && is_open(&call.replica);
         self.damages.count(damage, is_open, left.answer == 15);
+        if [Damage::Whole, Damage::OfRecord(OF_QUORUMS)].contains(&damage) {
+            self.quorum_bytes.count(&call.replica);
+        }
         count_each(&mut self.grounds, &GROUNDS, call, left);
         self.count_done(call, left);
         if damage == Damage::Whole && is_ticketed {
@@ -94,15 +108,17 @@ impl Counts {
     }
 
     fn count_done(&mut self, call: &Call, left: &Left) {
-        let Some(event) = event(call).filter(|_| left.answer == 0) else {
+        let (Some(event), Some((arrived, sent))) = (event(call), done(call, left)) else {
             return;
         };
-        let sent = left.sent().first().copied().unwrap_or(0);
-        let is_made = matches!(call.name, Name::Step(_));
+        let column = usize::from(matches!(call.name, Name::Step(_)));
         for (counts, (_, test)) in self.done.iter_mut().zip(DONE) {
-            counts[usize::from(is_made)] += usize::from(test(event, arrived(event), sent));
+            counts[column] += usize::from(test(event, arrived, sent));
         }
-        self.issued[usize::from(is_made)].count(&left.command, left.lengths[1]);
+        let (boxes, quorums) = (call.replica[BOXES], quorums_of(&call.replica));
+        self.pairs.count(boxes, quorums);
+        self.reached[column].count(boxes, quorums, arrived, sent);
+        self.issued[column].count(&left.command, left.lengths[1]);
     }
 
     fn count_whole(&mut self, call: &Call, left: &Left) {
@@ -121,6 +137,26 @@ impl Counts {
         }
     }
 
+    fn write_done(&self, out: &mut fmt::Formatter<'_>) -> fmt::Result {
+        let names = DONE.iter().map(|(name, _)| *name);
+        write_table(out, ["what was done", "asked", "made"], names, &self.done)?;
+        let [asked, made] = self.reached;
+        let before = ("before", self.reached_by_groups);
+        quorum_reach::write(out, &[before, ("asked", asked), ("made", made)])?;
+        self.pairs.write(out)?;
+        let [asked, made] = self.issued;
+        let issued = [0, 1].map(|byte| [asked.0[byte], made.0[byte]]);
+        let names = BYTES.iter().copied();
+        write_table(out, ["commands", "asked", "made"], names, &issued)
+    }
+
+    /// An error if there is an allowed pair of quorums without a step, made or
+    /// asked, or a byte 7 that no replica had.
+    pub fn check(&self) -> Result<(), String> {
+        self.pairs.check()?;
+        self.quorum_bytes.check()
+    }
+
     /// Whether each answer that a call can come to, each damage, each byte 2 and
     /// each row of the tables was met.
     #[cfg(test)]
@@ -128,10 +164,11 @@ impl Counts {
         let mut calls = self.answers.iter().zip(ANSWERS);
         let pairs: [&[[usize; 2]]; 2] = [&self.handed, &self.done];
         let [asked, made] = &self.issued;
-        let single: [&[usize]; 7] = [
+        let single: [&[usize]; 8] = [
             &self.of_groups,
             &self.issued_by_groups.0,
             &self.as_steps,
+            &self.reached_by_groups.0,
             &asked.0,
             &made.0,
             &self.opened,
@@ -139,6 +176,7 @@ impl Counts {
         ];
         calls.all(|(answers, possible)| possible.iter().all(|&answer| answers[answer] > 0))
             && self.damages.are_everywhere()
+            && self.pairs.check().is_ok()
             && self.tickets[0][0] > 0
             && self.tickets.iter().all(|&[_, refused]| refused > 0)
             && pairs
@@ -227,6 +265,7 @@ impl fmt::Display for Counts {
         write_row(out, "asks held against their steps", asked)?;
         write_row(out, "  and against their commits", committed)?;
         write!(out, "{}", self.damages)?;
+        self.quorum_bytes.write(out)?;
         let names = HANDED.iter().map(|(name, _)| *name);
         write_table(out, ["whole", "calls", "done"], names, &self.handed)?;
         let names = TICKETS.iter().map(|(_, name)| *name);
@@ -236,12 +275,7 @@ impl fmt::Display for Counts {
             names,
             &self.tickets,
         )?;
-        let names = DONE.iter().map(|(name, _)| *name);
-        write_table(out, ["what was done", "asked", "made"], names, &self.done)?;
-        let [asked, made] = self.issued;
-        let issued = [0, 1].map(|byte| [asked.0[byte], made.0[byte]]);
-        let names = BYTES.iter().copied();
-        write_table(out, ["commands", "asked", "made"], names, &issued)?;
+        self.write_done(out)?;
         write_rows(out, "open tickets", &OPENED, &self.opened)?;
         write_rows(out, "grounds and areas", &GROUNDS, &self.grounds)
     }

@@ -6,6 +6,8 @@ use crate::handed_readings;
 use crate::issued::Issued;
 use crate::law_call;
 use crate::prng::Prng;
+use crate::quorum_reach::Reached;
+use crate::quorums;
 use crate::record_calls::Making;
 use crate::record_layout::{sizes, MODE};
 use crate::ticket_box::TicketBox;
@@ -63,10 +65,12 @@ impl Group {
     fn make(prng: &mut Prng) -> Result<Group, String> {
         let (sizes, settings) = law_call::whole_settings(prng);
         let boxes = 3 + prng.below(7) as u8;
+        let quorums = quorums::allowed(&mut prng.apart(), boxes);
         let made = (1..=boxes).map(|own| {
             TicketBox::make(Making {
                 boxes,
                 own,
+                quorums,
                 sizes,
                 settings,
             })
@@ -202,6 +206,15 @@ impl Group {
             issued.add(one.issued);
         }
         issued
+    }
+
+    /// Quorums that they reached.
+    pub fn reached(&self) -> Reached {
+        let mut reached = Reached::default();
+        for one in &self.boxes {
+            reached.add(one.reached);
+        }
+        reached
     }
 
     /// One box, more often one in view-change mode, and the frames of all.

@@ -73,14 +73,14 @@ pub const DONE: [(&str, EventTest); 11] = [
         matches!(event, Event::GiveUp) && sent == 0
     }),
     ("Propose adopted", |_, arrived, _| arrived == PROPOSE),
-    ("Ack entered, no majority", |_, arrived, sent| {
+    ("Ack entered, fewer than a", |_, arrived, sent| {
         arrived == ACK && sent == 0
     }),
     ("Ack: decided", |_, arrived, sent| {
         arrived == ACK && sent == DECIDE
     }),
     ("Decide: decided", |_, arrived, _| arrived == DECIDE),
-    ("Estimate entered, no majority", |_, arrived, sent| {
+    ("Estimate entered, fewer than b", |_, arrived, sent| {
         arrived == ESTIMATE && sent == 0
     }),
     ("Estimate: taken over", |_, arrived, sent| {
@@ -182,8 +182,16 @@ pub fn event(call: &Call) -> Option<&Event> {
     }
 }
 
+/// Of an ask or a step that was done the kinds of the frame that arrived and of
+/// the frame that is sent, 0 for none.
+pub fn done(call: &Call, left: &Left) -> Option<(u8, u8)> {
+    let event = event(call).filter(|_| left.answer == 0)?;
+    let sent = left.sent().first().copied().unwrap_or(0);
+    Some((arrived(event), sent))
+}
+
 /// The kind of the frame that arrives; 0 where none does.
-pub fn arrived(event: &Event) -> u8 {
+fn arrived(event: &Event) -> u8 {
     match event {
         Event::Arrive { bytes } => bytes.first().copied().unwrap_or(0),
         Event::Tick { .. } | Event::GiveUp => 0,

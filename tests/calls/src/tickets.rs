@@ -5,6 +5,8 @@
 use winder::{IGNORED, RECORD, TICKETED};
 
 use crate::prng::Prng;
+use crate::record_damage::OF_QUORUMS;
+use crate::record_layout::has_allowed_quorums;
 use crate::ticket_calls::{called_by_both, Call, Left, Name, Ticket};
 pub use crate::ticket_counts::Counts;
 use crate::ticket_damage::{self, Damage};
@@ -17,7 +19,7 @@ use crate::ticket_lent;
 pub fn compare(seed: u64, number: usize, counts: &mut Counts) -> Result<(), String> {
     let prng = &mut Prng::of_script(seed, number);
     let group = Group::live(prng)?;
-    counts.count_group(&group.calls, group.issued());
+    counts.count_group(&group);
     let (mut one, traffic) = group.into_one(prng);
     ticket_events::open_one(prng, &mut one, &traffic)?;
     ticket_events::push_numbers(prng, &mut one);
@@ -32,6 +34,10 @@ pub fn compare(seed: u64, number: usize, counts: &mut Counts) -> Result<(), Stri
     let left = called_by_both(&call)?;
     if damage == Damage::Whole && left.answer == 15 {
         return Err(format!("a whole replica is refused: {call:?}"));
+    }
+    let is_refused = left.answer == 15;
+    if damage == Damage::OfRecord(OF_QUORUMS) && is_refused == has_allowed_quorums(&call.replica) {
+        return Err(format!("{call:?}: its quorums are answered by {left:?}"));
     }
     check_answer(&call, &left)?;
     check_as_step(&call, &left, counts)?;

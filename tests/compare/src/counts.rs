@@ -2,6 +2,7 @@
 
 mod asks;
 mod marks;
+mod quorums;
 
 use std::fmt;
 
@@ -9,6 +10,7 @@ use second::reading::Reading;
 
 pub use asks::{Asks, Ground};
 pub use marks::Marks;
+pub use quorums::Pairs;
 
 use crate::single_bits::{converted, CLASSES};
 
@@ -77,8 +79,9 @@ pub struct Counts {
     pub commands_never_left: usize,
     pub asks: Asks,
     pub marks: Marks,
+    pub pairs: Pairs,
     /// By refusal number; place 0 is unused. Those of asks are counted apart.
-    pub refused: [usize; 18],
+    pub refused: [usize; 19],
 }
 
 impl Counts {
@@ -102,6 +105,7 @@ impl Counts {
     pub fn refused_first_line(&mut self, output: &[u8]) {
         match output {
             [b'r', digit @ b'1'..=b'4', b'\n'] => self.refused[usize::from(digit - b'0')] += 1,
+            b"r18\n" => self.refused[18] += 1,
             _ => self.malformed += 1,
         }
     }
@@ -181,7 +185,7 @@ impl fmt::Display for Counts {
             writeln!(out, "{name:<34}{count:>9}")?;
         }
         self.write_power(out)?;
-        write!(out, "{}{}", self.asks, self.marks)?;
+        write!(out, "{}{}{}", self.pairs, self.asks, self.marks)?;
         self.write_readings(out)?;
         for (number, count) in self.refused.iter().enumerate().skip(1) {
             if !Self::is_an_answer(number) {

@@ -124,6 +124,7 @@ mod marks;
 #[cfg(test)]
 mod tests {
     use super::*;
+    use second::replica::Quorums;
 
     const LINES: &str = "T 1 100\nT 2 102\nD 2 1\nD 1 3\nD 2 4\nT 2 -\nT 1 8\nD 2 7\nD 1 8";
 
@@ -232,6 +233,24 @@ mod tests {
     fn a_row_never_handed_for_its_period_is_refused() {
         // 8 was handed to nobody in period 1: Update(0, 8) is 4.
         assert!(refused(" 50\n", " 4\n").contains("period 1: no choice"));
+    }
+
+    /// It is about commands and rows, whatever quorum numbers a group has.
+    #[test]
+    fn quorum_numbers_are_not_looked_at() {
+        let lines: Vec<Vec<u8>> = LINES.lines().map(|line| line.into()).collect();
+        for (to_decide, to_propose) in [(2, 2), (2, 3), (3, 2), (3, 3), (1, 1), (9, 9)] {
+            let group = Group {
+                named: Some(Quorums {
+                    to_decide,
+                    to_propose,
+                }),
+                ..Group::bench()
+            };
+            let checked = |output: &str| check(&group, Host::Plain, &lines, output.as_bytes());
+            assert_eq!(checked(RIGHT).unwrap().searched_periods, 2);
+            assert!(checked(&RIGHT.replace("- 50\n", "- 51\n")).is_err());
+        }
     }
 
     // With power cycles.

@@ -1,8 +1,8 @@
 //! Whether the comparison finds faults planted on purpose, and how soon.
 
 use second::fault::{
-    planted, Fault, LAW_MARK_NAMES, MARK_NAMES, NAMES, READING_NAMES, RECORD_NAMES, ROUNDING_NAMES,
-    STORE_NAMES, TICKET_NAMES,
+    planted, Fault, LAW_MARK_NAMES, MARK_NAMES, NAMES, QUORUM_NAMES, READING_NAMES, RECORD_NAMES,
+    ROUNDING_NAMES, STORE_NAMES, TICKET_NAMES,
 };
 
 use crate::counts::Counts;
@@ -27,6 +27,7 @@ pub fn table(seed: u64, second: impl Fn() -> Result<Programs, String>) -> Result
     let names = NAMES.into_iter().chain(READING_NAMES).chain(ROUNDING_NAMES);
     let names = names.chain(RECORD_NAMES).chain(STORE_NAMES);
     let names = names.chain(TICKET_NAMES).chain(MARK_NAMES);
+    let names = names.chain(QUORUM_NAMES);
     for (name, fault) in names.filter(shows) {
         let is_safe = keeps_demand3(fault);
         let found = look_for(seed, fault, &second()?.with_fault(name))?;
@@ -39,6 +40,7 @@ pub fn table(seed: u64, second: impl Fn() -> Result<Programs, String>) -> Result
         };
         let demand3 = match is_safe {
             true => "kept".to_string(),
+            false if is_of_first_lines(fault) => "no group".to_string(),
             false => shown(found.by_demand3),
         };
         let output = shown(found.by_output);
@@ -76,7 +78,8 @@ fn shows((_, fault): &(&str, Fault)) -> bool {
 }
 
 /// Whether demand 3 holds with a fault all the same: a box may miss one period
-/// more than it may return with, a commit may be refused, or change nothing.
+/// more than it may return with, a commit may be refused, or change nothing;
+/// quorums may be others, as long as two of them always have a box in common.
 fn keeps_demand3(fault: Fault) -> bool {
     let keeping = [
         Fault::MissedBeyondTaken,
@@ -85,7 +88,20 @@ fn keeps_demand3(fault: Fault) -> bool {
         Fault::TicketsGoOn,
         Fault::RefusedStepVoids,
     ];
-    keeping.contains(&fault)
+    let of_quorums = QUORUM_NAMES.iter().any(|(_, known)| *known == fault);
+    keeping.contains(&fault) || of_quorums && fault != Fault::SumOfNTaken
+}
+
+/// Whether a fault changes what is refused in a first line and nothing else: no
+/// script of a group shows it.
+fn is_of_first_lines(fault: Fault) -> bool {
+    let of_first_lines = [
+        Fault::SumOfNTaken,
+        Fault::QuorumOfOneTaken,
+        Fault::QuorumAboveTaken,
+        Fault::QuorumsBeforeLimits,
+    ];
+    of_first_lines.contains(&fault)
 }
 
 /// The scripts that can show a fault: of tickets those with asks alone.
@@ -96,10 +112,14 @@ fn numbers(is_shown: impl Fn(Fault) -> bool) -> impl Iterator<Item = usize> {
 }
 
 fn look_for(seed: u64, fault: Fault, faulty: &Programs) -> Result<Found, String> {
-    let by_output_alone = keeps_demand3(fault);
+    let of_first_lines = is_of_first_lines(fault);
+    let by_output_alone = keeps_demand3(fault) || of_first_lines;
     let mut found = Found::default();
     for number in numbers(|known| known == fault) {
         let script = generator::script(seed, number, &mut Counts::default());
+        if of_first_lines && script.lines.is_some() {
+            continue;
+        }
         let output = faulty.run(&script)?;
         if found.by_output.is_none() && output != library(&script) {
             found.by_output = Some(number);

@@ -2,13 +2,15 @@
 //! until the script is full.
 
 mod asks;
+mod gathered;
 mod power;
 mod pressing;
 
 use crate::counts::Counts;
-use crate::group::Group;
+use crate::group::{Group, UNFIT};
 use crate::played::Host;
 use crate::prng::Prng;
+use crate::quorums;
 use crate::stops::{Aim, Stops};
 use crate::writer::{Asking, Writer};
 
@@ -20,6 +22,10 @@ const ONE_STORING: usize = 3;
 
 /// One of so many has power cycles and asks.
 pub const ONE_ASKING: usize = 6;
+
+/// Of a hundred other scripts for the rig, so many have a first line that makes
+/// no group.
+const SPOILED: usize = 12;
 
 pub struct Script {
     pub is_rig: bool,
@@ -47,7 +53,11 @@ pub fn script(seed: u64, number: usize, counts: &mut Counts) -> Script {
         true => Stops::of_rig(apart, &mut group),
         false => Stops::of_bench(apart),
     };
-    if is_rig && prng.chance(6) {
+    if is_rig {
+        let turn = number - number / ONE_STORING;
+        quorums::name_in_turn(turn, &mut group);
+    }
+    if is_rig && prng.chance(SPOILED) {
         return spoiled_script(prng, group, counts);
     }
     match is_rig {
@@ -72,10 +82,12 @@ fn storing_script(prng: &mut Prng, asks: bool, counts: &mut Counts) -> Script {
     counts.storing_scripts += 1;
     counts.asking_scripts += usize::from(asks);
     let apart = prng.apart();
+    let apart_for_quorums = &mut apart.apart();
     let mut group = Group::random(prng);
     let stops = Stops::of_rig(apart, &mut group);
     // Most groups are small, for the sake of more periods in a script.
     group.boxes = prng.pick(&[3, 3, 3, 4, 4, 5, 5, 6, 7, 8, 9]);
+    quorums::name_any(apart_for_quorums, &mut group);
     let asking = asks.then(|| Asking::random(prng));
     let lines = written_lines(prng, group, Host::Storing, stops, asking, counts);
     Script {
@@ -96,10 +108,11 @@ fn written_lines(
     asking: Option<Asking>,
     counts: &mut Counts,
 ) -> Vec<Vec<u8>> {
+    counts.pairs.count_script(&group);
     let too_many = prng.chance(5);
     let least = match host {
-        Host::Plain => 200,
-        Host::Storing => 400,
+        Host::Plain if group.named.is_none() => 200,
+        _ => 400,
     };
     let limit = match too_many {
         true => MOST_LINES,
@@ -145,7 +158,14 @@ fn joined(prng: &mut Prng, first_line: Option<String>, lines: &[Vec<u8>]) -> Vec
 fn spoiled_script(prng: &mut Prng, group: Group, counts: &mut Counts) -> Script {
     counts.rig_scripts += 1;
     counts.spoiled_scripts += 1;
-    let mut input = group.spoiled_first_line(prng);
+    let mut input = match prng.chance(60) {
+        true => {
+            let (unfit, _) = prng.pick(&UNFIT);
+            counts.pairs.count_unfit(unfit);
+            group.with_unfit_quorums(prng, unfit)
+        }
+        false => group.spoiled_first_line(prng),
+    };
     input.extend(b"\nG 1\nT 1 1\n");
     Script {
         is_rig: true,
@@ -235,7 +255,9 @@ impl<'a> Course<'a> {
         if self.chance(80) {
             self.writer.pending.clear();
         }
+        let is_gathered = self.needs_most() && self.chance(60);
         match self.host {
+            _ if is_gathered => self.gather(1),
             Host::Plain => self.tick_all(),
             Host::Storing => self.tick_and_restore(),
         }
@@ -249,9 +271,12 @@ impl<'a> Course<'a> {
             4 => self.second_lap(),
             _ => self.chaos(),
         }
+        if is_gathered {
+            self.gather(0);
+        }
         // Else few periods would be decided: half of the lines store records,
-        // and many steps are undone.
-        if self.host == Host::Storing && self.chance(80) {
+        // and many steps are undone; or most boxes are needed.
+        if (self.host == Host::Storing || self.needs_most()) && self.chance(80) {
             self.converge(0);
         }
     }
@@ -293,11 +318,12 @@ impl<'a> Course<'a> {
         }
     }
 
-    /// A box stays away for some periods, or for good if a majority remains.
+    /// A box stays away for some periods, or for good if the group can go on
+    /// without it.
     fn leave(&mut self, place: usize) {
         let stopped = &self.writer.stopped;
         let remain = stopped.iter().filter(|&&stopped| !stopped).count();
-        if remain > self.writer.majority() && !self.writer.stopped[place] && self.chance(25) {
+        if remain > self.writer.to_go_on() && !self.writer.stopped[place] && self.chance(25) {
             self.writer.stopped[place] = true;
             self.writer.counts.stopped_boxes += 1;
         } else if self.host == Host::Storing && self.chance(60) {
@@ -360,7 +386,7 @@ impl<'a> Course<'a> {
 
     fn is_lost(&mut self, sent: usize, place: usize, loss: usize) -> bool {
         let parted = self.parted > 0 && self.sides[self.writer.sender(sent)] != self.sides[place];
-        // Acks after the majority are ignored; most are left out, for the
+        // Acks after the decision are ignored; most are left out, for the
         // sake of more periods in a script.
         let needless = self.writer.is_ack(sent) && self.writer.replicas[place].decided;
         self.is_away(place) || parted || self.chance(loss) || needless && self.chance(70)
@@ -413,7 +439,7 @@ impl<'a> Course<'a> {
     /// which is among them; then its frames arrive.
     fn converge(&mut self, loss: usize) {
         let places = self.undecided();
-        if places.len() >= self.writer.majority() {
+        if places.len() >= self.writer.to_propose() {
             self.converge_among(&places);
             self.pump(loss);
         }
@@ -425,8 +451,9 @@ impl<'a> Course<'a> {
         let Some(top) = places.iter().map(view_at).max() else {
             return;
         };
+        let leading = self.leading(places);
         let mut common = top + 1;
-        while !places.contains(&self.writer.coordinator_of(common)) {
+        while !leading.contains(&self.writer.coordinator_of(common)) {
             common += 1;
         }
         for &place in places {
@@ -489,7 +516,7 @@ impl<'a> Course<'a> {
     /// The coordinator's proposal reaches some boxes, then it is gone; the
     /// others go on without it.
     fn coordinator_stops(&mut self) {
-        let some = 1 + self.writer.prng.below(self.writer.majority());
+        let some = 1 + self.writer.prng.below(self.writer.to_decide());
         self.pump_some(some, 0);
         let seen_by = self.writer.prng.below(self.away.len());
         let gone = self.writer.coordinator_seen_by(seen_by);
@@ -498,10 +525,11 @@ impl<'a> Course<'a> {
         self.give_up_somehow();
     }
 
-    /// A coordinator is short of a majority of Acks; the boxes that did not
-    /// hear of its proposal decide on another in a later view, all but one;
-    /// that one's Estimate then comes to the old coordinator, for the next
-    /// view that it has. What it heard before must not count any more.
+    /// A coordinator is short of the Acks to decide; the boxes that did not
+    /// hear of its proposal are enough to take over and decide on another in a
+    /// later view, all but one; that one's Estimate then comes to the old
+    /// coordinator, for the next view that it has. What it heard before must
+    /// not count any more.
     fn second_lap(&mut self) {
         let places = self.undecided();
         let Some(&seen_by) = places.first() else {
@@ -510,7 +538,7 @@ impl<'a> Course<'a> {
         let old = self.writer.coordinator_seen_by(seen_by);
         let mut others = places;
         others.retain(|&place| place != old);
-        let few = self.writer.majority() - 2;
+        let few = self.few_hearing(others.len());
         if others.len() <= few {
             return;
         }

@@ -1,10 +1,14 @@
 //! The group that a script is for: made at random, and written as the first
 //! line of a rig script, now and then a spoiled one.
 
+mod unfit_quorums;
+
 use second::law::{Settings, LARGEST_COEFFICIENT};
+use second::replica::{Quorums, Replica};
 use second::script::bench_settings;
 
 use crate::prng::Prng;
+pub use unfit_quorums::{Unfit, UNFIT};
 
 /// 1 in the units of the coefficients.
 pub const ONE: i32 = 65_536;
@@ -25,6 +29,8 @@ const NO_NUMBERS: [&str; 9] = [
 #[derive(Clone, Copy)]
 pub struct Group {
     pub boxes: u8,
+    /// The quorum numbers that the first line names, if it names any.
+    pub named: Option<Quorums>,
     pub settings: Settings,
     /// Whether a reading may be a single: in scripts for the rig alone.
     pub takes_singles: bool,
@@ -34,6 +40,7 @@ impl Group {
     pub fn bench() -> Group {
         Group {
             boxes: 3,
+            named: None,
             settings: bench_settings(),
             takes_singles: false,
         }
@@ -53,12 +60,24 @@ impl Group {
         settings.start = [0; 6].map(|_| start(prng));
         Group {
             boxes: prng.between(3, 9) as u8,
+            named: None,
             settings,
             takes_singles: true,
         }
     }
 
-    /// `rig N n m p`, A, L, C, K, the lower and the upper limits, the start.
+    /// "without it both are the majority"
+    pub fn quorums(&self) -> Quorums {
+        self.named.unwrap_or(Quorums::majorities(self.boxes))
+    }
+
+    /// The box of this number, fresh.
+    pub fn replica(&self, own: u8) -> Replica {
+        Replica::new(self.boxes, own, self.quorums(), self.settings).expect("a good group")
+    }
+
+    /// `rig N n m p`, A, L, C, K, the lower and the upper limits, the start, and
+    /// `quorums a b` where they are named.
     pub fn first_line(&self) -> String {
         let s = &self.settings;
         let (n, m, p) = (usize::from(s.n), usize::from(s.m), usize::from(s.p));
@@ -71,7 +90,14 @@ impl Group {
         numbers.extend(&s.upper[..p]);
         numbers.extend(&s.start[..n]);
         let words: Vec<String> = numbers.iter().map(i32::to_string).collect();
-        format!("rig {}", words.join(" "))
+        format!("rig {}{}", words.join(" "), self.named_quorums())
+    }
+
+    fn named_quorums(&self) -> String {
+        match self.named {
+            Some(quorums) => format!(" quorums {} {}", quorums.to_decide, quorums.to_propose),
+            None => String::new(),
+        }
     }
 
     /// A first line that makes no group: refused, or not of the form.
@@ -191,20 +217,23 @@ fn start(prng: &mut Prng) -> i32 {
 }
 
 #[cfg(test)]
+fn first_answer(line: &[u8]) -> String {
+    let mut output = Vec::new();
+    second::script::rig(line, &mut output).unwrap();
+    String::from_utf8(output).unwrap()
+}
+
+#[cfg(test)]
 mod tests {
     use super::*;
-
-    fn first_answer(line: &[u8]) -> String {
-        let mut output = Vec::new();
-        second::script::rig(line, &mut output).unwrap();
-        String::from_utf8(output).unwrap()
-    }
+    use crate::quorums;
 
     #[test]
     fn random_groups_are_taken_and_spoiled_ones_are_not() {
         let mut prng = Prng::new(1);
-        for _ in 0..500 {
-            let group = Group::random(&mut prng);
+        for turn in 0..500 {
+            let mut group = Group::random(&mut prng);
+            quorums::name_in_turn(turn, &mut group);
             let line = group.first_line();
             assert!(first_answer(line.as_bytes()).starts_with("no "), "{line}");
             let spoiled = group.spoiled_first_line(&mut prng);

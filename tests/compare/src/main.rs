@@ -19,6 +19,7 @@ mod pages;
 mod past;
 mod played;
 mod prng;
+mod quorums;
 mod run;
 mod scripts;
 mod single_bits;

@@ -104,7 +104,7 @@ fn damaged(text: &[u8], prng: &mut Prng) -> Vec<u8> {
 
 /// Words that a line may have in place of one of its own: in form or range they
 /// are at an edge, or beyond it.
-const WORDS: [&str; 32] = [
+const WORDS: [&str; 33] = [
     "-",
     "?",
     "ok",
@@ -116,6 +116,7 @@ const WORDS: [&str; 32] = [
     "r16",
     "r17",
     "r18",
+    "r19",
     "r0",
     "0",
     "1",

@@ -147,7 +147,7 @@ mod tests {
 
     #[test]
     fn what_waits_leaves_with_the_record_and_returns_are_from_it() {
-        let replica = Replica::new(3, 2, Group::bench().settings).unwrap();
+        let replica = Group::bench().replica(2);
         let mut station = Station {
             waiting: Some(Waiting {
                 frame: Some(4),
@@ -199,7 +199,7 @@ mod tests {
     /// was asked alone; then what was asked before it alone.
     #[test]
     fn records_are_stored_in_the_order_that_counts() {
-        let replica = Replica::new(3, 2, Group::bench().settings).unwrap();
+        let replica = Group::bench().replica(2);
         let (mut station, _) = asked(&replica);
         station.store(&replica);
         assert!(station.may_store() && station.may_store_asked());
@@ -214,7 +214,7 @@ mod tests {
 
     #[test]
     fn what_a_commit_made_leaves_with_what_was_asked() {
-        let replica = Replica::new(3, 2, Group::bench().settings).unwrap();
+        let replica = Group::bench().replica(2);
         let waiting = |frame| Waiting {
             frame: Some(frame),
             decided: None,

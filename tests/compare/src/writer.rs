@@ -104,9 +104,7 @@ impl<'a> Writer<'a> {
         host: Host,
         limit: usize,
     ) -> Self {
-        let replicas = (1..=group.boxes)
-            .map(|own| Replica::new(group.boxes, own, group.settings).expect("a good group"))
-            .collect();
+        let replicas = (1..=group.boxes).map(|own| group.replica(own)).collect();
         let rare = |prng: &mut Prng| prng.pick(&[0, 1, 2, 4]);
         let disturbances = Disturbances {
             malformed: rare(prng),
@@ -188,8 +186,25 @@ impl<'a> Writer<'a> {
         self.stopped[place] || self.stations[place].is_down
     }
 
+    /// More than half of the boxes.
     pub fn majority(&self) -> usize {
         majority(self.group.boxes).into()
+    }
+
+    /// a, "the boxes needed to decide".
+    pub fn to_decide(&self) -> usize {
+        self.group.quorums().to_decide.into()
+    }
+
+    /// b, "the boxes heard before a new coordinator proposes".
+    pub fn to_propose(&self) -> usize {
+        self.group.quorums().to_propose.into()
+    }
+
+    /// The boxes without which the group cannot go on: some are needed to take
+    /// over, and some to decide then.
+    pub fn to_go_on(&self) -> usize {
+        self.to_decide().max(self.to_propose())
     }
 
     /// The place of a view's coordinator.
@@ -481,6 +496,7 @@ impl<'a> Writer<'a> {
         if !self.decided.contains(&period) {
             let missed = period > 1 && !self.decided.contains(&(period - 1));
             self.counts.decided_periods += 1;
+            self.counts.pairs.count_period(&self.group);
             self.counts.decided_after_missed += usize::from(missed);
             let on_the_bench = !self.group.takes_singles;
             self.counts.marks.count_period(decision, on_the_bench);
@@ -520,6 +536,7 @@ impl<'a> Writer<'a> {
     fn count_proposal(&mut self, place: usize, best: &Heard) {
         let counts = &mut self.counts;
         counts.proposals_after_estimates += 1;
+        counts.pairs.count_proposal(&self.group);
         if best.estimate.base_period == self.replicas[place].period {
             counts.open_taken_over += 1;
         } else if usize::from(best.from) != place + 1 && best.estimate.base_period > 0 {

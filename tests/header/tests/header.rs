@@ -79,7 +79,7 @@ fn the_declarations_for_rust_are_what_the_crate_exports() {
 
 /// Where each constant stands in the crates; `#` is its number. The kind of a
 /// missing reading stands nowhere: it is any but the two others.
-const CONSTANTS: [(&str, &str, &str); 38] = [
+const CONSTANTS: [(&str, &str, &str); 39] = [
     ("WINDER_VERSION", "winder/src/version.rt", "{\n    #\n}"),
     ("WINDER_STATES_MAX", "frame/src/lib.rt", "if # < n {"),
     ("WINDER_READINGS_MAX", "frame/src/lib.rt", "m <= #\n"),
@@ -234,6 +234,11 @@ const CONSTANTS: [(&str, &str, &str); 38] = [
         "ticketed/src/committing.rt",
         "return Answer::Refused(#);",
     ),
+    (
+        "WINDER_REFUSED_QUORUMS",
+        "replica/src/refusals.rt",
+        "if bad {\n        return #;",
+    ),
 ];
 
 #[test]
@@ -327,6 +332,10 @@ fn a_wrong_wrapper_is_found() {
             "start,\n        own,\n        boxes,",
         ),
         (
+            "own,\n        to_decide,\n        to_propose,",
+            "own,\n        to_propose,\n        to_decide,",
+        ),
+        (
             "settings->high,\n        start,",
             "start,\n        settings->high,",
         ),
@@ -358,6 +367,11 @@ fn exchanged_parameters_are_found() {
     is_found("winder_convert_single", conversion, exchanged);
     let (numbers, exchanged) = ("boxes,\n    uint8_t own", "own,\n    uint8_t boxes");
     is_found("winder_make", numbers, exchanged);
+    let (quorums, exchanged) = (
+        "to_decide,\n    uint8_t to_propose",
+        "to_propose,\n    uint8_t to_decide",
+    );
+    is_found("winder_make", quorums, exchanged);
     let (readings, exchanged) = (
         "const uint8_t kinds[4],\n    const uint32_t bits[4]",
         "const uint32_t bits[4],\n    const uint8_t kinds[4]",

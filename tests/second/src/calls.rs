@@ -16,7 +16,7 @@ use crate::law::{Settings, MAX_READINGS};
 use crate::reading::{Reading, Row};
 use crate::record::{self, LENGTH};
 use crate::refusal::Refusal;
-use crate::replica::{Answer, Areas, Replica, Step};
+use crate::replica::{Answer, Areas, Quorums, Replica, Step};
 
 /// The answer of a call that took place.
 pub const DONE: u32 = 0;
@@ -24,10 +24,10 @@ pub const DONE: u32 = 0;
 /// The answer of an event that is ignored; no refusal has this number.
 pub const IGNORED: u32 = 256;
 
-/// Makes the record of a fresh replica; refuses settings by 1 to 4, then by 5
-/// an area under 616 bytes.
-pub fn make(boxes: u8, own: u8, settings: Settings, area: &mut [u8]) -> u32 {
-    let made = Replica::new(boxes, own, settings);
+/// Makes the record of a fresh replica; refuses settings by 1 to 4, then by
+/// 18, then by 5 an area under 616 bytes.
+pub fn make(boxes: u8, own: u8, quorums: Quorums, settings: Settings, area: &mut [u8]) -> u32 {
+    let made = Replica::new(boxes, own, quorums, settings);
     answer_of(made.and_then(|replica| record::write(&replica, area)))
 }
 

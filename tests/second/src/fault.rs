@@ -20,7 +20,7 @@ pub enum Fault {
     OldEstimate,
     /// An update on the first tick.
     FirstTick,
-    /// Majorities smaller by one.
+    /// Both quorum numbers are smaller by one where boxes are counted.
     QuorumSmaller,
     /// Boxes heard are kept on entering a higher view.
     HeardKept,
@@ -76,7 +76,7 @@ pub enum Fault {
     BytesBehind,
     /// The header is written before a frame is refused by 8.
     RefusedHeader,
-    /// Lent areas are looked at before settings: 5 comes before 1 to 4.
+    /// Lent areas are looked at before settings: 5 comes before 1 to 4 and 18.
     AreasBeforeSettings,
     /// A tick's marks are looked at before its period: 7 comes before 6.
     MarksBeforePeriod,
@@ -261,6 +261,32 @@ pub enum Fault {
     EstimatesUpdateMarked,
     /// A value that stands at a limit without being changed is marked too.
     AtLimitMarked,
+    /// a and b are exchanged: deciding takes b, a take-over's proposal a.
+    QuorumsExchanged,
+    /// Quorums with a + b = N are taken.
+    SumOfNTaken,
+    /// b is counted without the own estimate. It is held among the boxes heard
+    /// all the same.
+    OwnEstimateNotCounted,
+    /// a is counted without the coordinator itself. It is held among the boxes
+    /// heard all the same.
+    CoordinatorNotCounted,
+    /// An a of 1 is taken where the rest allows it.
+    QuorumOfOneTaken,
+    /// An a above N is taken.
+    QuorumAboveTaken,
+    /// Quorums are looked at before limits: 18 comes before 4.
+    QuorumsBeforeLimits,
+    /// Quorums are not looked at in a step.
+    QuorumsNotInStep,
+    /// A record's byte 7 has a and b exchanged, written and read.
+    RecordQuorumsExchanged,
+    /// A record of version 1 is taken. With 0 as its byte 7, as that version
+    /// had it, both numbers are the majority.
+    FirstVersionTaken,
+    /// Quorums on the rig's first line are read and not used: both stay the
+    /// majority.
+    QuorumsPresumed,
 }
 
 /// The faults that scripts must find, with their names in the environment
@@ -441,6 +467,26 @@ pub const LAW_MARK_NAMES: [(&str, Fault); 2] = [
     ("at_limit_marked", Fault::AtLimitMarked),
 ];
 
+/// The faults of quorums that scripts must find.
+pub const QUORUM_NAMES: [(&str, Fault); 8] = [
+    ("quorums_exchanged", Fault::QuorumsExchanged),
+    ("sum_of_n_taken", Fault::SumOfNTaken),
+    ("own_estimate_not_counted", Fault::OwnEstimateNotCounted),
+    ("coordinator_not_counted", Fault::CoordinatorNotCounted),
+    ("quorum_of_one_taken", Fault::QuorumOfOneTaken),
+    ("quorum_above_taken", Fault::QuorumAboveTaken),
+    ("quorums_before_limits", Fault::QuorumsBeforeLimits),
+    ("quorums_presumed", Fault::QuorumsPresumed),
+];
+
+/// The faults of quorums that only steps on replicas handed in and records can
+/// find.
+pub const QUORUM_CALL_NAMES: [(&str, Fault); 3] = [
+    ("quorums_not_in_step", Fault::QuorumsNotInStep),
+    ("record_quorums_exchanged", Fault::RecordQuorumsExchanged),
+    ("first_version_taken", Fault::FirstVersionTaken),
+];
+
 static PLANTED: OnceLock<Fault> = OnceLock::new();
 
 /// Plants the fault that the environment names. Unset or empty: none. A name
@@ -457,6 +503,7 @@ pub fn plant_from_environment() -> Result<(), String> {
     let of_requests = of_requests.chain(&STORE_NAMES);
     let of_requests = of_requests.chain(&TICKET_NAMES).chain(&TICKET_CALL_NAMES);
     let of_requests = of_requests.chain(&MARK_NAMES).chain(&LAW_MARK_NAMES);
+    let of_requests = of_requests.chain(&QUORUM_NAMES).chain(&QUORUM_CALL_NAMES);
     let mut known = NAMES.iter().chain(of_calls).chain(of_requests);
     let (_, fault) = known
         .find(|(known, _)| name == *known)

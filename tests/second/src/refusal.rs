@@ -49,6 +49,9 @@ pub enum Refusal {
     /// Document 02, L6: "at commit: 17 ticket not the latest ask's, void or
     /// committed, or that ask ignored or refused"
     Ticket = 17,
+    /// Document 02, L8: "with the settings, after 4: 18 a or b outside 2 to N,
+    /// or a + b not above N"
+    Quorums = 18,
 }
 
 impl Refusal {

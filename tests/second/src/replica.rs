@@ -1,6 +1,7 @@
 //! Document 01, "What a replica holds", "Events" and "Where each refusal is
 //! made": one replica as a value that takes events. Its tick takes readings as
-//! document 02's L1 has them, and its commands say what L7 asks for.
+//! document 02's L1 has them, its commands say what L7 asks for, and its two
+//! quorum numbers are those of L8.
 
 use crate::fault::{planted, Fault};
 use crate::frame::{self, Frame, ACK, DECIDE, ESTIMATE, PROPOSE};
@@ -15,12 +16,33 @@ pub const MOST_BOXES: u8 = 9;
 /// Places for the boxes heard: box b has place b, so that place 0 is no box's.
 pub const HEARD_PLACES: usize = MOST_BOXES as usize + 1;
 
+/// Document 02, L8: "each 2 to N".
+const LEAST_QUORUM: u8 = 2;
+
 /// "a majority is N/2 rounded down, plus 1"
 pub fn majority(boxes: u8) -> u8 {
-    if planted(Fault::QuorumSmaller) {
-        return boxes / 2;
-    }
     boxes / 2 + 1
+}
+
+/// Document 02, L8: "The majority becomes two settings: a, the boxes needed to
+/// decide, and b, the boxes heard before a new coordinator proposes". "They are
+/// equal in all boxes of a group".
+#[derive(Clone, Copy, Debug, Default, PartialEq, Eq)]
+pub struct Quorums {
+    /// a
+    pub to_decide: u8,
+    /// b
+    pub to_propose: u8,
+}
+
+impl Quorums {
+    /// The majority of N for both.
+    pub fn majorities(boxes: u8) -> Quorums {
+        Quorums {
+            to_decide: majority(boxes),
+            to_propose: majority(boxes),
+        }
+    }
 }
 
 /// "The coordinator of view v is box (v mod N) + 1." Only for N not 0.
@@ -36,6 +58,36 @@ pub fn check_group(boxes: u8, own: u8) -> Result<(), Refusal> {
     } else {
         Err(Refusal::Group)
     }
+}
+
+/// Refusal 18: "a or b outside 2 to N, or a + b not above N".
+pub fn check_quorums(boxes: u8, quorums: Quorums) -> Result<(), Refusal> {
+    let (a, b) = (quorums.to_decide, quorums.to_propose);
+    let fits = |number: u8| (LEAST_QUORUM..=boxes).contains(&number);
+    let (sum, n) = (u16::from(a) + u16::from(b), u16::from(boxes));
+    let is_above = sum > n || sum == n && planted(Fault::SumOfNTaken);
+    if (fits(a) || is_misfit_taken(boxes, a)) && fits(b) && is_above {
+        Ok(())
+    } else {
+        Err(Refusal::Quorums)
+    }
+}
+
+/// An a of 1, or above N: only with a fault planted.
+fn is_misfit_taken(boxes: u8, a: u8) -> bool {
+    a == 1 && planted(Fault::QuorumOfOneTaken) || a > boxes && planted(Fault::QuorumAboveTaken)
+}
+
+/// Refusals 1 to 4 of settings and, as document 02's L8 has it, "with the
+/// settings, after 4: 18".
+fn check_all(boxes: u8, own: u8, quorums: Quorums, settings: &Settings) -> Result<(), Refusal> {
+    check_group(boxes, own)?;
+    let of_law = law::check(settings);
+    if of_law == Err(Refusal::Limits) && planted(Fault::QuorumsBeforeLimits) {
+        check_quorums(boxes, quorums)?;
+    }
+    of_law?;
+    check_quorums(boxes, quorums)
 }
 
 #[derive(Clone, Copy, Debug, PartialEq, Eq)]
@@ -122,6 +174,8 @@ pub struct Replica {
     pub boxes: u8,
     /// The own number.
     pub own: u8,
+    /// a and b.
+    pub quorums: Quorums,
     pub settings: Settings,
     pub period: u32,
     pub view: u32,
@@ -141,16 +195,21 @@ pub struct Replica {
 
 impl Replica {
     /// A fresh replica: "all counters 0, normal, undecided, starting state,
-    /// no reading, no box heard". Refuses settings by 1 to 4.
-    pub fn new(boxes: u8, own: u8, settings: Settings) -> Result<Replica, Refusal> {
-        check_group(boxes, own)?;
-        law::check(&settings)?;
+    /// no reading, no box heard". Refuses settings by 1 to 4, then by 18.
+    pub fn new(
+        boxes: u8,
+        own: u8,
+        quorums: Quorums,
+        settings: Settings,
+    ) -> Result<Replica, Refusal> {
+        check_all(boxes, own, quorums, &settings)?;
         let mut state = State::default();
         let n = usize::from(settings.n);
         state[..n].copy_from_slice(&settings.start[..n]);
         Ok(Replica {
             boxes,
             own,
+            quorums,
             settings,
             period: 0,
             view: 0,
@@ -205,7 +264,8 @@ impl Replica {
     }
 
     /// "settings in it that 1 to 4 would refuse get that number, before the
-    /// lent areas"; "lent areas are looked at before the event."
+    /// lent areas", and so do those that 18 would; "lent areas are looked at
+    /// before the event."
     fn run(
         &mut self,
         areas: Areas,
@@ -214,7 +274,7 @@ impl Replica {
         if planted(Fault::AreasBeforeSettings) {
             areas.check()?;
         }
-        self.check_settings()?;
+        self.check_in_step()?;
         areas.check()?;
         match event(self)? {
             Outcome::Ignored => Ok(Step::silent(Answer::Ignored)),
@@ -222,10 +282,17 @@ impl Replica {
         }
     }
 
-    /// Refusals 1 to 4 of the settings in a replica.
+    /// Refusals 1 to 4, then 18, of the settings in a replica.
     pub(crate) fn check_settings(&self) -> Result<(), Refusal> {
-        check_group(self.boxes, self.own)?;
-        law::check(&self.settings)
+        check_all(self.boxes, self.own, self.quorums, &self.settings)
+    }
+
+    /// The same in a step.
+    fn check_in_step(&self) -> Result<(), Refusal> {
+        match self.check_settings() {
+            Err(Refusal::Quorums) if planted(Fault::QuorumsNotInStep) => Ok(()),
+            checked => checked,
+        }
     }
 
     fn write(&self, sent: &Sent, areas: Areas) -> Result<Step, Refusal> {
@@ -312,7 +379,8 @@ impl Replica {
         self.send(self.ack_frame())
     }
 
-    /// "At a majority the box decides: Decide to all others, and the command."
+    /// "the box decides: Decide to all others, and the command", at document
+    /// 02's a, "the boxes needed to decide".
     fn on_ack(&mut self, frame: &Frame) -> Result<Outcome, Refusal> {
         if self.has_heard(frame.sender) {
             // Only with the planted fault of the doubled Ack.
@@ -320,7 +388,7 @@ impl Replica {
         } else {
             self.enter(frame.sender);
         }
-        if !self.majority_heard() {
+        if !self.enough_to_decide() {
             return Ok(Outcome::Done(Sent::default()));
         }
         let command = self.decide()?;
@@ -341,8 +409,8 @@ impl Replica {
     }
 
     /// "At a higher view the box first enters it in view-change mode with its
-    /// own estimate heard. At a majority it takes the best estimate whole and
-    /// proposes."
+    /// own estimate heard." At document 02's b, "the boxes heard before a new
+    /// coordinator proposes", it "takes the best estimate whole and proposes."
     fn on_estimate(&mut self, frame: &Frame) -> Result<Outcome, Refusal> {
         if frame.view > self.view {
             self.enter_view(frame.view);
@@ -352,7 +420,7 @@ impl Replica {
             base_view: frame.base_view,
             estimate: estimate_of(frame),
         });
-        if !self.majority_heard() {
+        if !self.enough_to_propose() {
             return Ok(Outcome::Done(Sent::default()));
         }
         self.estimate = self.best.estimate;
@@ -508,15 +576,41 @@ impl Replica {
         });
     }
 
-    /// "boxes above N aren't counted"
-    fn majority_heard(&self) -> bool {
+    /// Whether a boxes have acknowledged, the coordinator among them.
+    fn enough_to_decide(&self) -> bool {
+        let (a, _) = self.numbers_counted();
+        self.count_heard(planted(Fault::CoordinatorNotCounted)) >= a
+    }
+
+    /// Whether b estimates were heard, the own one among them.
+    fn enough_to_propose(&self) -> bool {
+        let (_, b) = self.numbers_counted();
+        self.count_heard(planted(Fault::OwnEstimateNotCounted)) >= b
+    }
+
+    /// a and b as boxes are counted for them.
+    fn numbers_counted(&self) -> (usize, usize) {
+        let a = usize::from(self.quorums.to_decide);
+        let b = usize::from(self.quorums.to_propose);
+        if planted(Fault::QuorumsExchanged) {
+            return (b, a);
+        }
+        if planted(Fault::QuorumSmaller) {
+            return (a - 1, b - 1);
+        }
+        (a, b)
+    }
+
+    /// "boxes above N aren't counted"; the own one is left out only with a
+    /// fault planted.
+    fn count_heard(&self, without_own: bool) -> usize {
         let mut last = self.boxes;
         if planted(Fault::BoxesAboveCounted) {
             last = MOST_BOXES;
         }
-        let counted = &self.heard[1..=last.into()];
-        let count = counted.iter().filter(|heard| **heard).count();
-        count >= majority(self.boxes).into()
+        let is_left_out = |number: u8| without_own && number == self.own;
+        let is_counted = |&number: &u8| self.heard[usize::from(number)] && !is_left_out(number);
+        (1..=last).filter(is_counted).count()
     }
 
     // Grounds for refusing an event and for ignoring a frame.

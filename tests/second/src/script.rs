@@ -1,8 +1,8 @@
 //! Document 01, "The bench": scripts of events for a group of boxes, read
 //! from lines and answered line by line. `rig` is the same for any group, and
 //! takes readings as document 02's L1 has them, boxes that stop and return as
-//! its L4 has them, and asks and commits as its L6 has them. Both print the `*`
-//! of its L7.
+//! its L4 has them, asks and commits as its L6 has them, and the quorum numbers
+//! of its L8. Both print the `*` of its L7.
 
 mod played;
 mod remembered;
@@ -12,10 +12,11 @@ use std::io::{self, BufRead, Write};
 use std::ops::RangeInclusive;
 use std::str::FromStr;
 
+use crate::fault::{planted, Fault};
 use crate::law::{self, Settings, MAX_READINGS};
 use crate::reading::{Reading, Row};
 use crate::refusal::Refusal;
-use crate::replica::{check_group, Replica};
+use crate::replica::{check_group, Quorums, Replica};
 use station::{Event, Station, What};
 
 /// "It reads at most 500 lines"
@@ -26,6 +27,12 @@ pub(crate) const HEADER: &str = "no who answer k v vb kb x frame command";
 pub(crate) const BAD: &str = "bad";
 
 const BENCH_BOXES: u8 = 3;
+
+/// Document 02, L8: "on the bench 2 and 2".
+const BENCH_QUORUMS: Quorums = Quorums {
+    to_decide: 2,
+    to_propose: 2,
+};
 
 /// "N = 3; n = m = p = 1; A, C, K hold 65536, L 32768; widest limits; start 0"
 pub fn bench_settings() -> Settings {
@@ -46,7 +53,7 @@ pub fn bench_settings() -> Settings {
 
 /// The program `bench`.
 pub fn bench(mut input: impl BufRead, mut output: impl Write) -> io::Result<()> {
-    match Group::new(BENCH_BOXES, bench_settings()) {
+    match Group::new(BENCH_BOXES, BENCH_QUORUMS, bench_settings()) {
         Ok(group) => group.run(&mut input, &mut output),
         Err(refusal) => writeln!(output, "{refusal}"),
     }
@@ -77,15 +84,16 @@ impl From<Refusal> for Unfit {
     }
 }
 
-/// Sizes first, by form, then by refusals 1 and 2; only then the rest of the
-/// line; then refusals 3 and 4.
+/// Changes: "1 and 2 come before anything after the sizes is looked at; then
+/// `bad`, also for ` quorums` not of the form; then 3, 4, 18".
 fn rig_group(line: &[u8]) -> Result<Group, Unfit> {
     let mut words = words(line);
     let (boxes, n, m, p) = rig_sizes(&mut words).ok_or(Unfit::Bad)?;
     check_group(boxes, 1)?;
     law::check_sizes(n, m, p)?;
     let settings = rig_settings(n, m, p, &mut words).ok_or(Unfit::Bad)?;
-    let group = Group::new(boxes, settings)?;
+    let quorums = rig_quorums(boxes, &mut words).ok_or(Unfit::Bad)?;
+    let group = Group::new(boxes, quorums, settings)?;
     Ok(Group {
         is_rig: true,
         ..group
@@ -97,11 +105,11 @@ fn rig_sizes<'a>(words: &mut impl Iterator<Item = &'a [u8]>) -> Option<(u8, u8, 
     if words.next()? != b"rig" {
         return None;
     }
-    let mut size = || u8::try_from(number(words.next()?)?).ok();
+    let mut size = || small_number(words.next()?);
     Some((size()?, size()?, size()?, size()?))
 }
 
-/// A, L, C, K, the lower and the upper limits and the start, and no more.
+/// A, L, C, K, the lower and the upper limits and the start.
 fn rig_settings<'a>(
     n: u8,
     m: u8,
@@ -122,7 +130,28 @@ fn rig_settings<'a>(
     fill(&mut settings.lower[..p], words)?;
     fill(&mut settings.upper[..p], words)?;
     fill(&mut settings.start[..n], words)?;
-    words.next().is_none().then_some(settings)
+    Some(settings)
+}
+
+/// Changes: "the first line may end with ` quorums a b` (each 0 to 255);
+/// without it both are the majority".
+fn rig_quorums<'a>(boxes: u8, words: &mut impl Iterator<Item = &'a [u8]>) -> Option<Quorums> {
+    let majorities = Quorums::majorities(boxes);
+    let Some(word) = words.next() else {
+        return Some(majorities);
+    };
+    let mut quorum = || small_number(words.next()?);
+    let quorums = Quorums {
+        to_decide: quorum()?,
+        to_propose: quorum()?,
+    };
+    let is_of_the_form = word == b"quorums" && words.next().is_none();
+    let used = if planted(Fault::QuorumsPresumed) {
+        majorities
+    } else {
+        quorums
+    };
+    is_of_the_form.then_some(used)
 }
 
 fn fill_table<'a, const WIDTH: usize>(
@@ -151,6 +180,11 @@ pub(crate) fn words(line: &[u8]) -> impl Iterator<Item = &[u8]> {
 
 pub(crate) fn number(word: &[u8]) -> Option<i64> {
     decimal(word)
+}
+
+/// A number from 0 to 255.
+fn small_number(word: &[u8]) -> Option<u8> {
+    u8::try_from(number(word)?).ok()
 }
 
 /// Changes: "decimal, 0 to 18446744073709551615".
@@ -228,9 +262,9 @@ struct Group {
 impl Group {
     /// "fresh replicas whose settings differ in the own number alone", with
     /// lines as the bench's.
-    fn new(boxes: u8, settings: Settings) -> Result<Group, Refusal> {
+    fn new(boxes: u8, quorums: Quorums, settings: Settings) -> Result<Group, Refusal> {
         check_group(boxes, 1)?;
-        let making = |own| Replica::new(boxes, own, settings).map(Station::new);
+        let making = |own| Replica::new(boxes, own, quorums, settings).map(Station::new);
         Ok(Group {
             stations: (1..=boxes).map(making).collect::<Result<_, _>>()?,
             sent: Vec::new(),
@@ -771,6 +805,97 @@ mod tests {
             let output = run_rig(format!("{line}\n").as_bytes());
             assert_eq!(output, format!("{expected}\n"), "{line}");
         }
+    }
+
+    /// Changes: "1 and 2 come before anything after the sizes is looked at; then
+    /// `bad`, also for ` quorums` not of the form; then 3, 4, 18".
+    #[test]
+    fn first_lines_of_the_rig_with_quorums() {
+        let cases = [
+            ("rig 2 1 1 1 quorums 2", "r1"),
+            ("rig 10 1 1 1 1 1 1 1 1 1 1 quorums 0 0", "r1"),
+            ("rig 3 0 1 1 quorums", "r2"),
+            ("rig 3 1 1 5 1 1 1 1 1 1 1 quorums 0 0", "r2"),
+            ("rig 3 1 1 1 quorums 2 2", "bad"),
+            ("rig 3 1 1 1 1 1 1 1 1 1 quorums 2 2", "bad"),
+            ("rig 3 1 1 1 1 1 1 1 1 1 1 1 quorums 2 2", "bad"),
+            ("rig 3 1 1 1 16777217 1 1 1 2 1 1 quorums 0", "bad"),
+            ("rig 3 1 1 1 16777217 1 1 1 2 1 1 quorums 0 256", "bad"),
+            ("rig 3 1 1 1 16777217 1 1 1 2 1 1 quorums 0 0", "r3"),
+            ("rig 3 1 1 1 16777217 1 1 1 1 1 1 quorums 0 0", "r3"),
+            ("rig 3 1 1 1 16777216 1 1 1 2 1 1 quorums 0 0", "r4"),
+            ("rig 3 1 1 1 16777216 1 1 1 2 1 1 quorums 2 2", "r4"),
+            ("rig 3 1 1 1 16777216 1 1 1 1 1 1 quorums 0 0", "r18"),
+            ("rig 3 1 1 1 16777216 1 1 1 1 1 1 quorums 255 255", "r18"),
+            ("rig 4 1 1 1 1 1 1 1 1 1 1 quorums 2 2", "r18"),
+            ("rig 4 1 1 1 1 1 1 1 1 1 1 quorums 2 3", HEADER),
+            ("rig 9 1 1 1 1 1 1 1 1 1 1 quorums 9 9", HEADER),
+        ];
+        for (line, expected) in cases {
+            let output = run_rig(format!("{line}\n").as_bytes());
+            assert_eq!(output, format!("{expected}\n"), "{line}");
+        }
+        // "may end with ` quorums a b`", each 0 to 255.
+        let behind = [
+            (" quorums 2 2", HEADER),
+            (" quorums 3 2", HEADER),
+            (" quorums 4 2", "r18"),
+            (" quorums 3 0", "r18"),
+            (" quorums 0 255", "r18"),
+            (" quorums", "bad"),
+            (" quorums ", "bad"),
+            (" quorums 2", "bad"),
+            (" quorums 2 ", "bad"),
+            (" quorums 2 2 ", "bad"),
+            (" quorums 2 2 2", "bad"),
+            (" quorums 2 2 quorums 2 2", "bad"),
+            ("  quorums 2 2", "bad"),
+            (" quorums  2 2", "bad"),
+            (" quorums 2  2", "bad"),
+            ("quorums 2 2", "bad"),
+            (" Quorums 2 2", "bad"),
+            (" quorum 2 2", "bad"),
+            (" quorumss 2 2", "bad"),
+            (" 2 2", "bad"),
+            (" quorums 02 2", "bad"),
+            (" quorums 2 02", "bad"),
+            (" quorums +2 2", "bad"),
+            (" quorums -2 2", "bad"),
+            (" quorums 2 -0", "bad"),
+            (" quorums 2 256", "bad"),
+            (" quorums 258 2", "bad"),
+            (" quorums 2 99999999999999999999", "bad"),
+            (" quorums 2 -", "bad"),
+            (" quorums 2,2", "bad"),
+            (" quorums 2 2\r", "bad"),
+            (" quorums\t2 2", "bad"),
+        ];
+        for (end, expected) in behind {
+            let output = run_rig(format!("{SMALL_RIG}{end}\n").as_bytes());
+            assert_eq!(output, format!("{expected}\n"), "{end:?}");
+        }
+    }
+
+    /// "They are equal in all boxes of a group".
+    #[test]
+    fn all_boxes_of_the_rig_have_its_quorums() {
+        let quorums_of = |line: String| {
+            let group = rig_group(line.as_bytes()).unwrap();
+            let boxes = group.stations.into_iter();
+            let mut quorums: Vec<Quorums> =
+                boxes.map(|station| station.held.replica.quorums).collect();
+            assert_eq!(quorums.len(), 8);
+            quorums.dedup();
+            quorums
+        };
+        let line = "rig 8 1 1 1 65536 32768 65536 65536 -9 9 7";
+        let quorums = Quorums {
+            to_decide: 2,
+            to_propose: 7,
+        };
+        assert_eq!(quorums_of(format!("{line} quorums 2 7")), [quorums]);
+        assert_eq!(quorums_of(line.to_string()), [Quorums::majorities(8)]);
+        assert_eq!(Quorums::majorities(8).to_decide, 5);
     }
 
     #[test]

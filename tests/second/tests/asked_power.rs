@@ -4,15 +4,18 @@
 //! one each.
 
 mod one_run;
+mod pairs;
 mod random;
+mod stored;
 
-use one_run::{lend, Left, Sent, Stored};
+use one_run::{lend, Left, Sent};
 use random::Random;
 use second::law::{Readings, Settings};
 use second::reading::{convert_row, Row};
 use second::record::LENGTH;
-use second::replica::{Areas, Replica, Step};
+use second::replica::{Areas, Quorums, Replica, Step};
 use second::tickets::Ticketed;
+use stored::Stored;
 
 /// What a host does with asks.
 #[derive(Clone, Copy, PartialEq, Eq)]
@@ -137,8 +140,8 @@ struct Group {
 }
 
 impl Group {
-    fn new(host: Host, boxes: u8, settings: Settings) -> Group {
-        let making = |own| Station::new(Replica::new(boxes, own, settings).unwrap());
+    fn new(host: Host, boxes: u8, quorums: Quorums, settings: Settings) -> Group {
+        let making = |own| Station::new(Replica::new(boxes, own, quorums, settings).unwrap());
         Group {
             host,
             stations: (1..=boxes).map(making).collect(),
@@ -173,7 +176,7 @@ impl Group {
     /// Any frame that left, mostly one of the last, at any box; another one if
     /// that would come to nothing, a few times over.
     fn delivery(&self, random: &mut Random) -> (usize, Event) {
-        let recent = self.left.recent();
+        let recent = self.left.recent(6);
         for _ in 0..5 {
             let place = random.below(self.stations.len());
             let Some(frame) = self.left.frame(recent, random) else {
@@ -242,14 +245,16 @@ impl Group {
 /// commands left and how many asks were committed in all.
 fn violations(host: Host) -> (usize, usize, usize) {
     let mut commits = 0;
-    let (violations, commands) = one_run::violations(|boxes, settings, random| {
-        let mut group = Group::new(host, boxes, settings);
+    let run = |boxes, quorums, settings, random: &mut Random| {
+        let mut group = Group::new(host, boxes, quorums, settings);
         group.run(random);
         commits += group.commits;
         let rows = group.stations.into_iter().map(|station| station.rows);
         (group.left, rows.collect())
-    });
-    (violations, commands, commits)
+    };
+    let (violations, commands) = one_run::violations(&stored::groups(), run);
+    assert!(commands.iter().all(|&count| count > 300), "{commands:?}");
+    (violations, commands.iter().sum(), commits)
 }
 
 #[test]

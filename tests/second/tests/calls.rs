@@ -1,6 +1,7 @@
 //! Document 02, L4: the calls of the boxes' C firmware, where "a replica is
 //! its record", against the calls on replicas; and the faults of the former.
 
+mod pairs;
 mod planted;
 mod random;
 
@@ -13,13 +14,19 @@ use second::law::{Readings, Settings};
 use second::reading::{Reading, Row};
 use second::record::{self, LENGTH};
 use second::refusal::Refusal;
-use second::replica::{Answer, Areas, Mode, Replica};
+use second::replica::{Answer, Areas, Mode, Quorums, Replica};
 use second::script::bench_settings;
 
 const FILL: u8 = 0xAA;
 
 /// Areas just long enough.
 const ENOUGH: (usize, usize) = (FRAME_AREA, COMMAND_AREA);
+
+/// Those of the bench.
+const QUORUMS: Quorums = Quorums {
+    to_decide: 2,
+    to_propose: 2,
+};
 
 /// What the lengths hold before a call.
 const LEFT: [usize; 2] = [777, 888];
@@ -114,7 +121,8 @@ fn recorded(replica: &Replica) -> Vec<u8> {
 /// The record of a fresh box of three, with the bench's law.
 fn made(own: u8) -> Vec<u8> {
     let mut record = vec![FILL; LENGTH];
-    assert_eq!(calls::make(3, own, bench_settings(), &mut record), DONE);
+    let answer = calls::make(3, own, QUORUMS, bench_settings(), &mut record);
+    assert_eq!(answer, DONE);
     record
 }
 
@@ -145,26 +153,34 @@ fn number(refusal: Refusal) -> u32 {
 #[test]
 fn making_writes_the_record_of_a_fresh_replica() {
     for own in 1..=3 {
-        let replica = Replica::new(3, own, bench_settings()).unwrap();
+        let replica = Replica::new(3, own, QUORUMS, bench_settings()).unwrap();
         assert_eq!(made(own), recorded(&replica));
         let mut longer = [FILL; LENGTH + 9];
-        assert_eq!(calls::make(3, own, bench_settings(), &mut longer), 0);
+        let answer = calls::make(3, own, QUORUMS, bench_settings(), &mut longer);
+        assert_eq!(answer, 0);
         assert_eq!(longer[..LENGTH], made(own));
         assert_eq!(longer[LENGTH..], [FILL; 9]);
     }
 }
 
 #[test]
-fn making_refuses_by_1_to_4_then_5() {
-    let make = |boxes, own, settings: &Settings, length: usize| {
+fn making_refuses_by_1_to_4_then_18_then_5() {
+    let mut quorums = QUORUMS;
+    let make_with = |quorums, boxes, own, settings: &Settings, length: usize| {
         let mut area = vec![FILL; length];
-        let answer = calls::make(boxes, own, *settings, &mut area);
+        let answer = calls::make(boxes, own, quorums, *settings, &mut area);
         assert!(area.iter().all(|&byte| byte == FILL));
         answer
     };
     let mut settings = bench_settings();
-    assert_eq!(make(3, 1, &settings, 615), 5);
-    assert_eq!(make(3, 1, &settings, 0), 5);
+    assert_eq!(make_with(quorums, 3, 1, &settings, 615), 5);
+    assert_eq!(make_with(quorums, 3, 1, &settings, 0), 5);
+    quorums.to_propose = 4;
+    let make =
+        |boxes, own, settings: &Settings, length| make_with(quorums, boxes, own, settings, length);
+    assert_eq!(make(3, 1, &settings, 0), 18);
+    assert_eq!(make(3, 1, &settings, 615), 18);
+    assert_eq!(make(3, 1, &settings, 616), 18);
     settings.upper[0] = i32::MIN;
     settings.lower[0] = 0;
     assert_eq!(make(3, 1, &settings, 615), 4);
@@ -210,7 +226,7 @@ fn kinds_of_readings() {
     let mut settings = bench_settings();
     settings.m = 4;
     let mut record = vec![0; LENGTH];
-    assert_eq!(calls::make(3, 2, settings, &mut record), DONE);
+    assert_eq!(calls::make(3, 2, QUORUMS, settings, &mut record), DONE);
     let readings_of = |kinds: [u8; 4], bits: [u32; 4]| {
         let (record, _) = call_done(&record, &Event::Tick(kinds, bits));
         record::read(&record).unwrap().estimate.readings
@@ -419,7 +435,9 @@ fn calls_on_records_are_those_on_replicas() {
     for round in 0..600 {
         let boxes = 3 + (round % 7) as u8;
         let settings = random.settings();
-        let making = |own| Replica::new(boxes, own, settings).unwrap();
+        let pairs = pairs::allowed(boxes);
+        let quorums = pairs[random.below(pairs.len())];
+        let making = |own| Replica::new(boxes, own, quorums, settings).unwrap();
         let mut replicas: Vec<Replica> = (1..=boxes).map(making).collect();
         let mut records: Vec<Vec<u8>> = replicas.iter().map(recorded).collect();
         let mut sent: Vec<Vec<u8>> = Vec::new();

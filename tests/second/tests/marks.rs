@@ -12,10 +12,16 @@ use second::law::{self, Readings, Settings, State};
 use second::printed;
 use second::reading::{Reading, Row};
 use second::record::LENGTH;
-use second::replica::{Answer, Areas, Replica};
+use second::replica::{Answer, Areas, Quorums, Replica};
 use second::script::{self, bench_settings};
 use second::ticket_calls;
 use second::tickets;
+
+/// Those of the bench.
+const QUORUMS: Quorums = Quorums {
+    to_decide: 2,
+    to_propose: 2,
+};
 
 const LEAST: i32 = i32::MIN;
 const LARGEST: i32 = i32::MAX;
@@ -81,7 +87,7 @@ fn by_steps(settings: Settings, readings: &[Option<i32>]) -> Vec<Vec<u8>> {
             [step.frame_length, step.command_length]
         })
     };
-    let making = |own| Replica::new(3, own, settings).unwrap();
+    let making = |own| Replica::new(3, own, QUORUMS, settings).unwrap();
     commands(making, take, readings)
 }
 
@@ -92,7 +98,7 @@ fn row_of(y: Option<i32>) -> Row {
 
 fn made(own: u8, settings: Settings) -> Vec<u8> {
     let mut record = vec![0; LENGTH];
-    assert_eq!(calls::make(3, own, settings, &mut record), DONE);
+    assert_eq!(calls::make(3, own, QUORUMS, settings, &mut record), DONE);
     record
 }
 

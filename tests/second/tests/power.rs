@@ -3,13 +3,16 @@
 //! that keeps its conditions, and at hosts that break one each.
 
 mod one_run;
+mod pairs;
 mod random;
+mod stored;
 
-use one_run::{lend, Left, Sent, Stored};
+use one_run::{lend, Left, Sent};
 use random::Random;
 use second::law::{Readings, Settings};
 use second::reading::convert_row;
-use second::replica::{Areas, Replica, Step};
+use second::replica::{Areas, Quorums, Replica, Step};
+use stored::Stored;
 
 /// What a host does with records.
 #[derive(Clone, Copy, PartialEq, Eq)]
@@ -67,8 +70,8 @@ impl Station {
 }
 
 impl Group {
-    fn new(host: Host, boxes: u8, settings: Settings) -> Group {
-        let making = |own| Station::new(Replica::new(boxes, own, settings).unwrap());
+    fn new(host: Host, boxes: u8, quorums: Quorums, settings: Settings) -> Group {
+        let making = |own| Station::new(Replica::new(boxes, own, quorums, settings).unwrap());
         Group {
             host,
             stations: (1..=boxes).map(making).collect(),
@@ -111,7 +114,7 @@ impl Group {
     /// Delivers any frame that left, mostly one of the last, to any box;
     /// another one if that comes to nothing, a few times over.
     fn deliver(&mut self, random: &mut Random) -> usize {
-        let recent = self.left.recent();
+        let recent = self.left.recent(6);
         for _ in 0..5 {
             let place = random.below(self.stations.len());
             let Some(frame) = self.left.frame(recent, random) else {
@@ -167,14 +170,16 @@ impl Group {
 /// commands left and how many boxes returned in all.
 fn violations(host: Host) -> (usize, usize, usize) {
     let mut returns = 0;
-    let (violations, commands) = one_run::violations(|boxes, settings, random| {
-        let mut group = Group::new(host, boxes, settings);
+    let run = |boxes, quorums, settings, random: &mut Random| {
+        let mut group = Group::new(host, boxes, quorums, settings);
         group.run(random);
         returns += group.returns;
         let rows = group.stations.into_iter().map(|station| station.rows);
         (group.left, rows.collect())
-    });
-    (violations, commands, returns)
+    };
+    let (violations, commands) = one_run::violations(&stored::groups(), run);
+    assert!(commands.iter().all(|&count| count > 300), "{commands:?}");
+    (violations, commands.iter().sum(), returns)
 }
 
 #[test]

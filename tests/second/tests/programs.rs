@@ -4,7 +4,7 @@
 use std::io::Write;
 use std::process::{Command, Output, Stdio};
 
-use second::fault::{MARK_NAMES, ROUNDING_NAMES, STORE_NAMES};
+use second::fault::{MARK_NAMES, QUORUM_CALL_NAMES, QUORUM_NAMES, ROUNDING_NAMES, STORE_NAMES};
 
 const BENCH: &str = env!("CARGO_BIN_EXE_bench");
 const RIG: &str = env!("CARGO_BIN_EXE_rig");
@@ -47,8 +47,13 @@ fn assert_shows(program: &str, fault: &str, input: &str, line: usize, row: &str)
 }
 
 fn rig_of(boxes: u8, script: &str) -> String {
+    rig_with(boxes, "", script)
+}
+
+/// The same with what stands at the end of its first line.
+fn rig_with(boxes: u8, quorums: &str, script: &str) -> String {
     let settings = "1 1 1 32768 32768 65536 65536 -2147483648 2147483647 8";
-    format!("rig {boxes} {settings}\n{script}")
+    format!("rig {boxes} {settings}{quorums}\n{script}")
 }
 
 #[test]
@@ -150,6 +155,107 @@ fn quorum_smaller_shows() {
     let script = "T 1 10\nT 2 10\nD 2 1\nD 1 3\n";
     let row = "4 1 ok 1 0 0 1 8 4 5";
     assert_shows(RIG, "quorum_smaller", &rig_of(4, script), 4, row);
+    // Both numbers: of the second, box 2 has heard itself and box 3.
+    let row = "5 2 ok 1 1 1 1 8 5 -";
+    assert_shows(RIG, "quorum_smaller", &rig_of(4, TAKEN_OVER), 5, row);
+}
+
+/// Box 1's Propose is acknowledged by one box.
+const ACKNOWLEDGED: &str = "T 1 10\nT 2 10\nD 2 1\nD 1 3\n";
+
+/// Box 2 hears one Estimate.
+const TAKEN_OVER: &str = "T 2 10\nG 2\nT 3 10\nG 3\nD 2 4\n";
+
+#[test]
+fn rig_takes_two_quorum_numbers() {
+    let row = |quorums, script, line: usize| {
+        let rows = lines(RIG, "", &rig_with(5, quorums, script));
+        rows[line].clone()
+    };
+    let (decided, undecided) = ("4 1 ok 1 0 0 1 8 4 5", "4 1 ok 1 0 0 1 8 - -");
+    let (proposed, waiting) = ("5 2 ok 1 1 1 1 8 5 -", "5 2 ok 1 1 0 0 8 - -");
+    let cases = [
+        ("", undecided, waiting),
+        (" quorums 3 3", undecided, waiting),
+        (" quorums 2 4", decided, waiting),
+        (" quorums 2 5", decided, waiting),
+        (" quorums 4 2", undecided, proposed),
+        (" quorums 5 2", undecided, proposed),
+        (" quorums 5 5", undecided, waiting),
+    ];
+    for (quorums, fourth, fifth) in cases {
+        assert_eq!(row(quorums, ACKNOWLEDGED, 4), fourth, "{quorums}");
+        assert_eq!(row(quorums, TAKEN_OVER, 5), fifth, "{quorums}");
+    }
+    assert_eq!(lines(RIG, "", &rig_with(4, " quorums 2 2", "")), ["r18"]);
+}
+
+/// The first line that shows each fault of quorums, and its row; 0 is the
+/// header's, or what stands in its place.
+#[test]
+fn faults_of_quorums_show() {
+    let acknowledged = |boxes, quorums| rig_with(boxes, quorums, ACKNOWLEDGED);
+    let taken_over = |boxes, quorums| rig_with(boxes, quorums, TAKEN_OVER);
+    let crossed = "rig 4 1 1 1 1 1 1 1 2 1 1 quorums 0 0\n".to_string();
+    let header = "no who answer k v vb kb x frame command";
+    let undecided = "4 1 ok 1 0 0 1 8 - -";
+    let waiting = "5 2 ok 1 1 0 0 8 - -";
+    let cases = [
+        (
+            "quorums_exchanged",
+            acknowledged(5, " quorums 2 4"),
+            4,
+            undecided,
+        ),
+        ("sum_of_n_taken", acknowledged(4, " quorums 2 2"), 0, header),
+        (
+            "own_estimate_not_counted",
+            taken_over(4, " quorums 3 2"),
+            5,
+            waiting,
+        ),
+        (
+            "coordinator_not_counted",
+            acknowledged(4, " quorums 2 3"),
+            4,
+            undecided,
+        ),
+        (
+            "quorum_of_one_taken",
+            acknowledged(4, " quorums 1 4"),
+            0,
+            header,
+        ),
+        (
+            "quorum_above_taken",
+            acknowledged(4, " quorums 5 4"),
+            0,
+            header,
+        ),
+        ("quorums_before_limits", crossed, 0, "r18"),
+        (
+            "quorums_presumed",
+            acknowledged(5, " quorums 2 4"),
+            4,
+            undecided,
+        ),
+    ];
+    for (fault, input, line, row) in &cases {
+        assert_shows(RIG, fault, input, *line, row);
+    }
+    let names = cases.map(|case| case.0);
+    assert_eq!(names, QUORUM_NAMES.map(|(name, _)| name));
+    // The others show in no script.
+    let stored = format!("{ACKNOWLEDGED}S 1\nR 1 0\nS 2\nR 2 1\nAT 1 7\nSA 1\nR 1 0\n");
+    let input = rig_with(5, " quorums 2 4", &stored);
+    for (fault, _) in QUORUM_CALL_NAMES {
+        assert_eq!(lines(RIG, fault, &input), lines(RIG, "", &input), "{fault}");
+    }
+    // On the bench: of 2 and 2 neither is reached.
+    let row = "4 1 ok 1 0 0 1 0 - -";
+    assert_shows(BENCH, "coordinator_not_counted", EXAMPLE, 4, row);
+    let row = "5 2 ok 1 1 0 0 0 - -";
+    assert_shows(BENCH, "own_estimate_not_counted", TAKEN_OVER, 5, row);
 }
 
 #[test]

@@ -10,7 +10,7 @@ use second::law::Readings;
 use second::reading::Reading::{self, Count, Missing, Newtons};
 use second::reading::{convert_row, convert_single, Row};
 use second::refusal::Refusal;
-use second::replica::{Answer, Areas, Mode, Replica, Step};
+use second::replica::{Answer, Areas, Mode, Quorums, Replica, Step};
 use second::script::bench_settings;
 
 const FILL: u8 = 0xAA;
@@ -64,7 +64,7 @@ fn fresh(own: u8, m: u8) -> Replica {
     for j in 0..usize::from(m) {
         settings.l[0][j] = 65_536;
     }
-    Replica::new(3, own, settings).unwrap()
+    Replica::new(3, own, Quorums::majorities(3), settings).unwrap()
 }
 
 /// A row that is missing but for one place.

@@ -10,7 +10,7 @@ use second::law::{Readings, Settings};
 use second::reading::{Reading, Row};
 use second::record::{self, LENGTH};
 use second::refusal::Refusal;
-use second::replica::{Answer, Areas, Estimate, Heard, Mode, Replica, Step};
+use second::replica::{Answer, Areas, Estimate, Heard, Mode, Quorums, Replica, Step};
 use second::script::bench_settings;
 
 const FILL: u8 = 0xAA;
@@ -46,7 +46,7 @@ fn tick(replica: Replica, first: Reading) -> (Replica, Vec<u8>) {
 }
 
 fn fresh(own: u8) -> Replica {
-    Replica::new(3, own, bench_settings()).unwrap()
+    Replica::new(3, own, Quorums::majorities(3), bench_settings()).unwrap()
 }
 
 /// So many places of 4 bytes.
@@ -67,8 +67,8 @@ fn adopted() -> Replica {
 #[test]
 fn a_worked_record() {
     let expected = [
-        // The letter, the version, N, the own number, n, m, p and 0.
-        vec![82, 1, 3, 2, 1, 1, 1, 0],
+        // The letter, the version, N, the own number, n, m, p, and 2 and 2.
+        vec![82, 2, 3, 2, 1, 1, 1, 34],
         // A, L, C and K.
         [vec![0, 0, 1, 0], zeros(35)].concat(),
         [vec![0, 128, 0, 0], zeros(23)].concat(),
@@ -116,6 +116,10 @@ fn full() -> Replica {
     Replica {
         boxes: 9,
         own: 8,
+        quorums: Quorums {
+            to_decide: 3,
+            to_propose: 7,
+        },
         settings,
         period: 0x1112_1314,
         view: 0x2122_2324,
@@ -151,7 +155,7 @@ fn full() -> Replica {
 fn every_number_has_its_place() {
     let record = recorded(&full());
     let number = |at: usize| u32::from_le_bytes(record[at..at + 4].try_into().unwrap());
-    assert_eq!(record[..8], [82, 1, 9, 8, 6, 4, 3, 0]);
+    assert_eq!(record[..8], [82, 2, 9, 8, 6, 4, 3, 0x73]);
     // A list, where it starts, and how many values it has.
     let lists = [
         (8, 36, 0x0001_0200),
@@ -213,6 +217,7 @@ fn held() -> Replica {
     Replica {
         boxes: 4,
         own: 2,
+        quorums: Quorums::majorities(4),
         settings,
         period: 7,
         view: 5,
@@ -315,8 +320,8 @@ fn what_no_record_may_hold_is_written_as_it_stands() {
     assert_eq!(record::read(&expected), Err(Refusal::Record));
 }
 
-/// The record's area: refused by 1 to 4, then by 5. Refused, all of it keeps
-/// what it held.
+/// The record's area: refused by 1 to 4, then by 18, then by 5. Refused, all
+/// of it keeps what it held.
 #[test]
 fn writing_refuses_settings_then_the_area() {
     let write = |replica: &Replica, length: usize| {
@@ -331,6 +336,10 @@ fn writing_refuses_settings_then_the_area() {
     let mut replica = held();
     for length in [0, 1, 615] {
         assert_eq!(write(&replica, length), Err(Refusal::Areas));
+    }
+    replica.quorums.to_decide = 1;
+    for length in [0, 615, 616] {
+        assert_eq!(write(&replica, length), Err(Refusal::Quorums));
     }
     (replica.settings.lower[0], replica.settings.upper[0]) = (1, 0);
     assert_eq!(write(&replica, 0), Err(Refusal::Limits));
@@ -377,8 +386,8 @@ fn records_of_other_lengths_are_refused() {
 }
 
 #[test]
-fn the_letter_the_version_and_byte_7_are_looked_at() {
-    for (at, right) in [(0, 82), (1, 1), (7, 0)] {
+fn the_letter_and_the_version_are_looked_at() {
+    for (at, right) in [(0, 82), (1, 2)] {
         for byte in (0..=u8::MAX).filter(|&byte| byte != right) {
             assert_refused(&held(), at, &[byte]);
         }
@@ -746,7 +755,7 @@ const CASES: [Case; 18] = [
     ("best_box_taken", || {
         is_refused(&held(), 566, &[0]) && is_refused(&held(), 566, &[5])
     }),
-    ("version_unread", || is_refused(&held(), 1, &[2])),
+    ("version_unread", || is_refused(&held(), 1, &[3])),
     ("second_mode_taken", || is_refused(&held(), 512, &[2])),
     ("record_settings_unread", || {
         is_refused(&held(), 3, &[0]) && is_refused(&held(), 4, &[7])

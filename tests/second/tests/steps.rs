@@ -1,6 +1,7 @@
 //! Steps on replicas handed in, by the public calls alone, as a comparison
 //! program takes them: every field may hold anything, and each comes back.
 
+mod pairs;
 mod planted;
 
 use planted::Case;
@@ -9,7 +10,7 @@ use second::frame::{self, Frame, ACK, COMMAND_AREA, DECIDE, ESTIMATE, FRAME_AREA
 use second::law::{self, Readings, Settings};
 use second::reading::{convert_row, Reading, Row};
 use second::refusal::Refusal;
-use second::replica::{coordinator, Answer, Areas, Estimate, Heard, Mode, Replica, Step};
+use second::replica::{coordinator, Answer, Areas, Estimate, Heard, Mode, Quorums, Replica, Step};
 use second::replica::{HEARD_PLACES, MOST_BOXES};
 
 const FILL: u8 = 0xAA;
@@ -62,6 +63,7 @@ fn handed_in() -> Replica {
     Replica {
         boxes: 4,
         own: 2,
+        quorums: Quorums::majorities(4),
         settings: odd_settings(),
         period: 7,
         view: 5,
@@ -204,7 +206,7 @@ fn assert_silent(before: Replica, taken: &Taken, answer: Answer) {
 }
 
 #[test]
-fn an_ack_changes_the_boxes_heard_and_at_a_majority_decided() {
+fn an_ack_changes_the_boxes_heard_and_at_the_ath_decided() {
     let first = take_ok(handed_in(), &arrival(ACK, 3, 5)).replica;
     let mut expected = handed_in();
     expected.heard[3] = true;
@@ -352,7 +354,7 @@ fn a_tick_takes_the_readings_as_the_law_reads_them() {
 
 #[test]
 fn making_starts_with_0_beyond_n() {
-    let made = Replica::new(4, 2, odd_settings()).unwrap();
+    let made = Replica::new(4, 2, Quorums::majorities(4), odd_settings()).unwrap();
     assert_eq!(made.settings, odd_settings());
     assert_eq!(made.estimate.state, [3, 4, 0, 0, 0, 0]);
     assert_eq!((made.heard, made.has_best), (places_of(&[]), false));
@@ -493,6 +495,18 @@ impl Random {
         3 + self.below(7) as u8
     }
 
+    /// Any pair that 18 takes, seldom any numbers.
+    fn quorums(&mut self, boxes: u8) -> Quorums {
+        let pairs = pairs::allowed(boxes);
+        if pairs.is_empty() || self.one_in(100) {
+            return Quorums {
+                to_decide: self.byte(),
+                to_propose: self.byte(),
+            };
+        }
+        pairs[self.below(pairs.len() as u32) as usize]
+    }
+
     /// A view's coordinator or, once in so many, any box.
     fn coordinator_or_any(&mut self, boxes: u8, view: u32, bound: u32) -> u8 {
         if boxes == 0 || self.one_in(bound) {
@@ -507,6 +521,7 @@ impl Random {
         Replica {
             boxes,
             own: self.coordinator_or_any(boxes, view, 2),
+            quorums: self.quorums(boxes),
             settings: self.settings(),
             period: self.counter(),
             view,
@@ -626,7 +641,10 @@ fn place_of(event: &Event) -> usize {
 /// What every step that is ok keeps, and what it makes anew.
 fn assert_kept(before: &Replica, event: &Event, taken: &Taken) {
     let after = &taken.replica;
-    let of_settings = |replica: &Replica| (replica.boxes, replica.own, replica.settings);
+    let of_settings = |replica: &Replica| {
+        let group = (replica.boxes, replica.own, replica.quorums);
+        (group, replica.settings)
+    };
     assert_eq!(of_settings(after), of_settings(before));
     assert_sent(taken);
 
@@ -761,6 +779,7 @@ fn each_fault_breaks_its_case_alone() {
 fn every_box_of_the_largest_group_has_a_place() {
     let mut replica = handed_in();
     (replica.boxes, replica.own, replica.view) = (MOST_BOXES, MOST_BOXES, 8);
+    replica.quorums = Quorums::majorities(MOST_BOXES);
     replica.heard = places_of(&[9]);
     for sender in 1..=4 {
         assert!(!replica.decided);

@@ -1,6 +1,7 @@
 //! Document 02, L6: the calls of the boxes' C firmware on a replica with
 //! tickets, an area of 752 bytes, and their faults.
 
+mod pairs;
 mod planted;
 mod random;
 
@@ -10,7 +11,7 @@ use second::calls::{self, DONE, IGNORED};
 use second::fault;
 use second::frame::{COMMAND_AREA, FRAME_AREA};
 use second::record::{self, LENGTH};
-use second::replica::{Areas, Mode, Replica};
+use second::replica::{Areas, Mode, Quorums, Replica};
 use second::script::bench_settings;
 use second::ticket_calls;
 use second::tickets;
@@ -132,7 +133,9 @@ fn commit(area: &[u8], ticket: u64) -> (u32, Vec<u8>) {
 
 fn made_record(own: u8) -> Vec<u8> {
     let mut record = vec![FILL; LENGTH];
-    assert_eq!(calls::make(3, own, bench_settings(), &mut record), DONE);
+    let quorums = Quorums::majorities(3);
+    let answer = calls::make(3, own, quorums, bench_settings(), &mut record);
+    assert_eq!(answer, DONE);
     record
 }
 
@@ -254,8 +257,12 @@ fn what_is_not_of_the_layout_is_refused_by_15() {
         assert!(!is_refused(&area));
         for at in [0, 1, 7, 512, 616, 617, 619, 620, 621, 622, 623] {
             for byte in (0..=u8::MAX).filter(|&byte| byte != area[at]) {
-                let is_mode = at == 512 && byte == 1;
-                assert_eq!(is_refused(&with(&area, at, &[byte])), !is_mode, "{at}");
+                // The other mode, and the other pairs of three boxes.
+                let is_taken = match at {
+                    7 => [0x22, 0x23, 0x32, 0x33].contains(&byte),
+                    _ => at == 512 && byte == 1,
+                };
+                assert_eq!(is_refused(&with(&area, at, &[byte])), !is_taken, "{at}");
             }
         }
         for byte in 2..=u8::MAX {
@@ -415,8 +422,8 @@ struct Station {
 }
 
 impl Station {
-    fn new(boxes: u8, own: u8) -> Station {
-        let replica = Replica::new(boxes, own, bench_settings()).unwrap();
+    fn new(boxes: u8, own: u8, quorums: Quorums) -> Station {
+        let replica = Replica::new(boxes, own, quorums, bench_settings()).unwrap();
         let mut record = vec![0; LENGTH];
         record::write(&replica, &mut record).unwrap();
         Station {
@@ -474,7 +481,9 @@ fn asks_and_commits_are_the_plain_calls() {
     let mut commits = 0;
     for round in 0..250 {
         let boxes = 3 + round % 3;
-        let making = |own| Station::new(boxes, own);
+        let pairs = pairs::allowed(boxes);
+        let quorums = pairs[random.below(pairs.len())];
+        let making = |own| Station::new(boxes, own, quorums);
         let mut stations: Vec<Station> = (1..=boxes).map(making).collect();
         let mut sent: Vec<Vec<u8>> = Vec::new();
         for _ in 0..200 {

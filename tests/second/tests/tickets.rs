@@ -9,7 +9,7 @@ use second::frame::{COMMAND_AREA, FRAME_AREA};
 use second::reading::{Reading, Row};
 use second::record::{self, LENGTH};
 use second::refusal::Refusal;
-use second::replica::{Answer, Areas, Mode, Replica, Step};
+use second::replica::{Answer, Areas, Mode, Quorums, Replica, Step};
 use second::script::bench_settings;
 use second::tickets::{Asked, Ticketed};
 
@@ -100,7 +100,8 @@ fn commit(held: &Ticketed, ticket: u64) -> Result<Replica, Refusal> {
 }
 
 fn fresh(own: u8) -> Ticketed {
-    Ticketed::new(Replica::new(3, own, bench_settings()).unwrap())
+    let quorums = Quorums::majorities(3);
+    Ticketed::new(Replica::new(3, own, quorums, bench_settings()).unwrap())
 }
 
 fn recorded(replica: &Replica) -> Vec<u8> {

@@ -11,7 +11,7 @@ extern "C" {
     ) -> u32;
 
     pub fn steps_make(
-        group: &[u8; 2],
+        group: &[u8; 4],
         sizes: &[usize; 3],
         a: &[i32; 36],
         l: &[i32; 24],
@@ -32,7 +32,7 @@ extern "C" {
     ) -> u32;
 
     pub fn steps_tick(
-        group: &[u8; 2],
+        group: &[u8; 4],
         sizes: &[usize; 3],
         a: &[i32; 36],
         l: &[i32; 24],
@@ -60,7 +60,7 @@ extern "C" {
     ) -> u32;
 
     pub fn steps_give_up(
-        group: &[u8; 2],
+        group: &[u8; 4],
         sizes: &[usize; 3],
         a: &[i32; 36],
         l: &[i32; 24],
@@ -86,7 +86,7 @@ extern "C" {
     ) -> u32;
 
     pub fn steps_arrive(
-        group: &[u8; 2],
+        group: &[u8; 4],
         sizes: &[usize; 3],
         a: &[i32; 36],
         l: &[i32; 24],

@@ -11,8 +11,8 @@ pub const IGNORED: u32 = 256;
 /// The settings of a replica.
 #[derive(Clone, Debug)]
 pub struct Settings {
-    /// N and the own number.
-    pub group: [u8; 2],
+    /// N, the own number, a and b.
+    pub group: [u8; 4],
     pub law: winder::Settings,
     pub start: [i32; 6],
 }

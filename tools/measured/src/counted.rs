@@ -5,11 +5,11 @@ use second::calls;
 use second::frame::{self, Frame};
 use second::law::Settings;
 use second::refusal::Refusal;
-use second::replica::Areas;
+use second::replica::{Areas, Quorums};
 
 #[inline(never)]
-pub fn make(settings: &Settings, boxes: u8, own: u8, area: &mut [u8]) -> u32 {
-    calls::make(boxes, own, *settings, area)
+pub fn make(settings: &Settings, boxes: u8, own: u8, quorums: Quorums, area: &mut [u8]) -> u32 {
+    calls::make(boxes, own, quorums, *settings, area)
 }
 
 #[inline(never)]

@@ -3,7 +3,7 @@
 use std::marker::PhantomData;
 
 use second::law::Settings;
-use second::replica::Areas;
+use second::replica::{majority, Areas, Quorums};
 use winder::{Lent, RECORD};
 
 use crate::boxes::Member;
@@ -56,7 +56,8 @@ pub enum First {}
 
 impl Calls for First {
     fn make(given: &Given, boxes: u8, own: u8, area: &mut [u8]) -> u32 {
-        winder::make(&given.law.settings, &given.law.start, boxes, own, area)
+        let (law, quorum) = (&given.law, majority(boxes));
+        winder::make(&law.settings, &law.start, boxes, own, quorum, quorum, area)
     }
 
     fn tick(record: &mut [u8], with: &Readings, areas: Areas, lengths: &mut [usize; 2]) -> u32 {
@@ -93,7 +94,8 @@ pub enum Second {}
 
 impl Calls for Second {
     fn make(given: &Given, boxes: u8, own: u8, area: &mut [u8]) -> u32 {
-        counted::make(&given.settings, boxes, own, area)
+        let quorums = Quorums::majorities(boxes);
+        counted::make(&given.settings, boxes, own, quorums, area)
     }
 
     fn tick(record: &mut [u8], with: &Readings, areas: Areas, lengths: &mut [usize; 2]) -> u32 {

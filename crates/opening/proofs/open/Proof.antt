@@ -7,6 +7,7 @@ use Rattle.lists.specs.Choice.{pick}
 use Rattle.opening.specs.declared.Opening.the-variants.{Refused}
 use Rattle.opening.specs.Opening.{begun, openedBy, openedWith, openedAs, unopened}
 use Rattle.opening.proofs.OpeningLaws.{in-range}
+use Rattle.opening.proofs.EndingLaws.{numbered-ended}
 use Rattle.opening.proofs.open.Statement.{statement}
 use Rattle.opening.proofs.open.Tie as tie
 
@@ -76,36 +77,41 @@ returns-3 c =
     let x : c .unopened3 .result ≡ openedBy line s = rw (b, z) (y ∙ ap (openedWith line s) (c .before .before .before .starts-of .ensures .0)) in
     x ∙ ap (openedBy line) (c .before .before .before .before .before .before .before .before .before .sizes-in .ensures)
 
+cast-boxes : tie.Need-cast-boxes
+cast-boxes c =
+    let r = in-range _ (sym (c .before .before .before .before .before .sizes-refusal .ensures) ∙ c .before .before .before .before .if2 .left) in record { fits = omega (arith, r .boxes) }
+
+quorums-in-requires : tie.Need-quorums-in-requires
+quorums-in-requires c κs =
+    let line = c .before .before .before .before .before .before .before .before .before .before .before .args .line .now in
+    let at = c .before .before .before .starts-of .result in
+    let e = sym (c .before .before .is-numbered .ensures) ∙ not-false _ (c .before .if3 .left) in
+    (c .before .before .before .starts-of .ensures .7, numbered-ended (at .count) line e)
+
 law-in-requires : tie.Need-law-in-requires
 law-in-requires c κs =
-    let r = in-range _ (sym (c .before .before .before .before .sizes-refusal .ensures) ∙ c .before .before .before .if2 .left) in
-    let e = c .before .before .starts-of .ensures in
+    let r = in-range _ (sym (c .before .before .before .before .before .before .sizes-refusal .ensures) ∙ c .before .before .before .before .before .if2 .left) in
+    let e = c .before .before .before .before .starts-of .ensures in
     (r .n, r .m, r .p, e .1, e .2, e .3, e .4, e .5, e .6)
-
-cast-t16 : tie.Need-cast-t16
-cast-t16 c =
-    let r = in-range _
-    (sym (c .before .before .before .before .before .before .sizes-refusal .ensures)
-    ∙ c .before .before .before .before .before .if2 .left) in record { fits = omega (arith, r .boxes) }
 
 returns-4 : tie.Need-returns-4
 unfolding openedBy openedWith pick
 returns-4 c =
-    let line = c .before .before .before .before .before .before .before .before .before .before .before .before .args .line .now in
-    let s = c .before .before .before .before .before .before .before .before .before .before .sizes-in .result in
+    let line = c .before .before .before .before .before .before .before .before .before .before .before .before .before .args .line .now in
+    let s = c .before .before .before .before .before .before .before .before .before .before .before .sizes-in .result in
     let b =
-    sym (c .before .before .before .before .before .before .before .before .has-begun .ensures
-    ∙ ap (λ w. begun w s) (c .before .before .before .before .before .before .before .before .before .field .ensures))
-    ∙ not-false _ (c .before .before .before .before .before .before .before .if1 .left) in
+    sym (c .before .before .before .before .before .before .before .before .before .has-begun .ensures
+    ∙ ap (λ w. begun w s) (c .before .before .before .before .before .before .before .before .before .before .field .ensures))
+    ∙ not-false _ (c .before .before .before .before .before .before .before .before .if1 .left) in
     let z = eq-eqb _ _ (sym
-    (c .before .before .before .before .before .before .sizes-refusal .ensures) ∙ c .before .before .before .before .before .if2 .left) in
-    let at = c .before .before .before .before .starts-of .result in
-    let y : openedAs s (c .before .law-in .result) ≡ openedWith line s at =
-    rw (sym (c .before .before .before .is-numbered .ensures) ∙ not-false _ (c .before .before .if3 .left))
-    (ap (openedAs s) (c .before .law-in .ensures)) in
-    let x : openedAs s (c .before .law-in .result) ≡ openedBy line s = rw (b, z) (y ∙ ap (openedWith line s)
-    (c .before .before .before .before .starts-of .ensures .0)) in
-    x ∙ ap (openedBy line) (c .before .before .before .before .before .before .before .before .before .before .sizes-in .ensures)
+    (c .before .before .before .before .before .before .before .sizes-refusal .ensures) ∙ c .before .before .before .before .before .before .if2 .left) in
+    let at = c .before .before .before .before .before .starts-of .result in
+    let y : openedAs s (c .before .quorums-in .result) (c .law-in .result) ≡ openedWith line s at =
+    rw (sym (c .before .before .before .before .is-numbered .ensures) ∙ not-false _ (c .before .before .before .if3 .left))
+    (let quorums = c .before .quorums-in .ensures in let law = c .law-in .ensures in λ i. openedAs s (quorums i) (law i)) in
+    let x : openedAs s (c .before .quorums-in .result) (c .law-in .result) ≡ openedBy line s = rw (b, z) (y ∙ ap (openedWith line s)
+    (c .before .before .before .before .before .starts-of .ensures .0)) in
+    x ∙ ap (openedBy line) (c .before .before .before .before .before .before .before .before .before .before .before .sizes-in .ensures)
 
 pub open-spec : {M : Type 1} → statement M
 open-spec =
@@ -123,6 +129,7 @@ open-spec =
     is-numbered-requires
     unopened-requires-3
     returns-3
+    cast-boxes
+    quorums-in-requires
     law-in-requires
-    cast-t16
     returns-4)

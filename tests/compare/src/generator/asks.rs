@@ -15,7 +15,7 @@ impl Course<'_> {
         };
         let coordinator = self.writer.coordinator_seen_by(seen_by);
         others.retain(|&place| place != coordinator);
-        others.truncate(self.writer.majority() - 1);
+        others.truncate(self.writer.to_decide() - 1);
         let manner = self.writer.prng.pick(&AskedAck::ALL);
         for &place in &others {
             if let Some(proposal) = self.proposal_to(place) {

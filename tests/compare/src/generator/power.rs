@@ -45,7 +45,7 @@ impl Course<'_> {
     }
 
     /// A majority loses its power, also all boxes; what the others do comes to
-    /// nothing. Then all return, most of them to one period.
+    /// little. Then all return, most of them to one period.
     fn blackout(&mut self) {
         let is_long = self.chance(3);
         let least = self.writer.majority();
@@ -98,7 +98,7 @@ impl Course<'_> {
         };
         let coordinator = self.writer.coordinator_seen_by(seen_by);
         others.retain(|&place| place != coordinator);
-        others.truncate(self.writer.majority() - 1);
+        others.truncate(self.writer.to_decide() - 1);
         self.pump_to(&[&others[..], &[coordinator]].concat(), 100);
         for place in others {
             if self.chance(70) {

@@ -50,11 +50,24 @@ fn every_case_occurs() {
     let (can, cannot) = counts.marks.on_the_bench();
     let cases = cases.iter().chain(&readings).chain(&counts.single_classes);
     let cases = cases.chain(&power).chain(&counts.returns).chain(&asks);
-    let mut cases = cases.chain(&marks).chain(&can);
+    let by_sort = counts.pairs.by_sort();
+    let mut cases = cases.chain(&marks).chain(&can).chain(&by_sort);
     // Returns with 10,000 missed periods take time, so there are few.
     assert!(cases.all(|&count| count >= 5), "{counts}");
     assert_eq!(cannot, vec![0; cannot.len()], "{counts}");
     assert_eq!(counts.marks.otherwise, 0, "{counts}");
+}
+
+/// Every allowed pair is named, decides and takes over, and all that is unfit
+/// occurs.
+#[test]
+fn every_allowed_pair_is_played() {
+    let mut counts = Counts::default();
+    for number in 1..=2_000 {
+        script(1, number, &mut counts);
+    }
+    let by_pair = counts.pairs.by_pair();
+    assert!(by_pair.iter().all(|&count| count > 0), "{counts}");
 }
 
 #[test]

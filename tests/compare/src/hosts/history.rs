@@ -134,7 +134,7 @@ pub struct History {
 
 impl History {
     pub fn new(group: Group) -> History {
-        let fresh = |own| Replica::new(group.boxes, own, group.settings).expect("a good group");
+        let fresh = |own| group.replica(own);
         let station = |own| Station {
             replica: fresh(own),
             past: Past::default(),

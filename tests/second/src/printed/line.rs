@@ -79,14 +79,14 @@ fn is_box(word: &[u8]) -> bool {
 }
 
 /// "`r` and the number, as `r9`". The numbers are those of events and
-/// settings, that of a return and that of a commit: no script prints a page's
-/// refusals or a record's.
+/// settings, 18 among these, that of a return and that of a commit: no script
+/// prints a page's refusals or a record's.
 fn is_refusal(word: &[u8]) -> bool {
     let last = usize::from(Refusal::LastView.number());
     let missed = usize::from(Refusal::Missed.number());
-    let ticket = usize::from(Refusal::Ticket.number());
+    let quorums = usize::from(Refusal::Quorums.number());
     word.strip_prefix(b"r")
-        .and_then(|number| number_in(number, 1..=ticket))
+        .and_then(|number| number_in(number, 1..=quorums))
         .is_some_and(|number| number <= last || number >= missed)
 }
 
@@ -192,8 +192,8 @@ mod tests {
             ("1 9 500", "0 501 01 +1 -1 -"),
             ("1 9", "0 10 01 -1 -"),
             (
-                "ok ignored r1 r9 r10 r12 r16 r17",
-                "r r0 r13 r14 r15 r18 r117 r017 r01 R1 Ok oks bad - 1",
+                "ok ignored r1 r9 r10 r12 r16 r17 r18",
+                "r r0 r13 r14 r15 r19 r118 r018 r01 R1 Ok oks bad - 1",
             ),
             counters,
             counters,
@@ -261,8 +261,8 @@ mod tests {
         let fields = [
             (
                 2,
-                "ok ignored r1 r12 r16 r17",
-                "r0 r13 r14 r15 r18 Ok bad -",
+                "ok ignored r1 r12 r16 r17 r18",
+                "r0 r13 r14 r15 r19 Ok bad -",
             ),
             (7, "0 -1 1,2", "- ? 01 1,"),
             (8, "- ?", "1 500 ?? -- 0 *"),

@@ -4,8 +4,8 @@
 /// Layout: "82, the letter R".
 pub const LETTER: u8 = b'R';
 
-/// Layout: "version of the layout: 1".
-pub const VERSION: u8 = 1;
+/// Layout: "version of the layout: 2".
+pub const VERSION: u8 = 2;
 
 pub const LETTER_AT: usize = 0;
 pub const VERSION_AT: usize = 1;
@@ -17,7 +17,9 @@ pub const OWN_AT: usize = 3;
 pub const N_AT: usize = 4;
 pub const M_AT: usize = 5;
 pub const P_AT: usize = 6;
-pub const ZERO_AT: usize = 7;
+/// Document 02, L8: "Records of L4 gain both numbers". Layout: "a in its four
+/// low bits, b in its four high bits".
+pub const QUORUMS_AT: usize = 7;
 
 // "The seven tables and lists of the settings (8 to 495) stand whole".
 

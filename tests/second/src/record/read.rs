@@ -8,7 +8,7 @@ use super::layout::*;
 use crate::fault::{planted, Fault};
 use crate::law::{Readings, Settings};
 use crate::refusal::Refusal;
-use crate::replica::{Estimate, Heard, Mode, Replica};
+use crate::replica::{Estimate, Heard, Mode, Quorums, Replica};
 
 /// Reads the replica that a record stands for; refuses by 15 "record not of
 /// the layout, or with settings refused at making, a mode or mark of no
@@ -29,10 +29,9 @@ pub fn read(bytes: &[u8]) -> Result<Replica, Refusal> {
 type Record = [u8; LENGTH];
 
 /// What the bytes themselves must fulfil.
-const OF_BYTES: [fn(&Record) -> bool; 7] = [
+const OF_BYTES: [fn(&Record) -> bool; 6] = [
     has_letter,
     has_version,
-    has_zero,
     mode_has_meaning,
     decided_has_meaning,
     heard_have_meaning,
@@ -62,11 +61,12 @@ fn has_letter(record: &Record) -> bool {
 }
 
 fn has_version(record: &Record) -> bool {
-    record[VERSION_AT] == VERSION || planted(Fault::VersionUnread)
+    record[VERSION_AT] == VERSION || is_first_taken(record) || planted(Fault::VersionUnread)
 }
 
-fn has_zero(record: &Record) -> bool {
-    record[ZERO_AT] == 0
+/// Version 1: only with a fault planted.
+fn is_first_taken(record: &Record) -> bool {
+    record[VERSION_AT] == 1 && planted(Fault::FirstVersionTaken)
 }
 
 /// "mode: 0 normal, 1 view change"
@@ -94,7 +94,7 @@ fn is_mark(byte: u8) -> bool {
 
 // The replica.
 
-/// Changes: "settings that 1 to 4 refuse".
+/// Changes: "settings that 1 to 4 refuse", and "18 .. on a record (there 15)".
 fn settings_are_taken(replica: &Replica) -> bool {
     replica.check_settings().is_ok() || planted(Fault::RecordSettingsUnread)
 }
@@ -187,6 +187,7 @@ fn replica_of(record: &Record) -> Replica {
     Replica {
         boxes: record[BOXES_AT],
         own: record[OWN_AT],
+        quorums: quorums_of(record),
         settings: settings_of(record),
         period: number(&record[PERIOD_AT..]),
         view: number(&record[VIEW_AT..]),
@@ -207,6 +208,24 @@ fn mode_of(byte: u8) -> Mode {
     match byte {
         0 => Mode::Normal,
         _ => Mode::ViewChange,
+    }
+}
+
+/// Layout: "a in its four low bits, b in its four high bits". A record of
+/// version 1 has 0 there, which stands for the majorities where a fault takes
+/// it.
+fn quorums_of(record: &Record) -> Quorums {
+    let byte = record[QUORUMS_AT];
+    if byte == 0 && is_first_taken(record) {
+        return Quorums::majorities(record[BOXES_AT]);
+    }
+    let (mut a, mut b) = (byte & 15, byte >> 4);
+    if planted(Fault::RecordQuorumsExchanged) {
+        (a, b) = (b, a);
+    }
+    Quorums {
+        to_decide: a,
+        to_propose: b,
     }
 }
 

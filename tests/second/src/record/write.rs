@@ -1,13 +1,14 @@
 //! Writing a replica's record into an area lent for it.
 
 use super::layout::*;
+use crate::fault::{planted, Fault};
 use crate::law::{Settings, State};
 use crate::refusal::Refusal;
-use crate::replica::{Estimate, Heard, Mode, Replica};
+use crate::replica::{Estimate, Heard, Mode, Quorums, Replica};
 
-/// Writes the record of a replica; refuses settings by 1 to 4, then by 5 an
-/// area that is too short. Bytes behind the record keep what they held, and
-/// all do where it is refused.
+/// Writes the record of a replica; refuses settings by 1 to 4, then by 18,
+/// then by 5 an area that is too short. Bytes behind the record keep what they
+/// held, and all do where it is refused.
 ///
 /// Of a replica that a caller made up, what it holds is written "as frames
 /// write it (marks below m, 0 where absent)"; a best estimate that is not
@@ -28,14 +29,15 @@ pub fn check_area(area: &[u8]) -> Result<(), Refusal> {
     Ok(())
 }
 
-/// The record of a replica with settings that 1 to 4 took; byte 7 and whatever
-/// is not in use are 0.
+/// The record of a replica with settings that 1 to 4 and 18 took; whatever is
+/// not in use is 0.
 fn record_of(replica: &Replica) -> [u8; LENGTH] {
     let mut record = [0; LENGTH];
     record[LETTER_AT] = LETTER;
     record[VERSION_AT] = VERSION;
     record[BOXES_AT] = replica.boxes;
     record[OWN_AT] = replica.own;
+    record[QUORUMS_AT] = quorums_byte(replica.quorums);
     put_settings(&mut record, &replica.settings);
     put_counters(&mut record, replica);
     record[MODE_AT] = u8::from(replica.mode == Mode::ViewChange);
@@ -50,6 +52,15 @@ fn record_of(replica: &Replica) -> [u8; LENGTH] {
         put_best(&mut record, settings, &replica.best);
     }
     record
+}
+
+/// Layout: "a + 16 × b"; neither is above 9.
+fn quorums_byte(quorums: Quorums) -> u8 {
+    let (mut a, mut b) = (quorums.to_decide, quorums.to_propose);
+    if planted(Fault::RecordQuorumsExchanged) {
+        (a, b) = (b, a);
+    }
+    a & 15 | b << 4
 }
 
 /// Layout: the tables and lists "stand whole, as they were given, also in

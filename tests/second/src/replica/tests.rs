@@ -67,7 +67,22 @@ fn arrive_frame(replica: Replica, frame: &Frame) -> Taken {
 }
 
 fn fresh(boxes: u8, own: u8) -> Replica {
-    Replica::new(boxes, own, bench_settings()).unwrap()
+    Replica::new(boxes, own, Quorums::majorities(boxes), bench_settings()).unwrap()
+}
+
+/// a and b.
+fn of(to_decide: u8, to_propose: u8) -> Quorums {
+    Quorums {
+        to_decide,
+        to_propose,
+    }
+}
+
+/// All pairs with a and b from 2 to N and a + b above N.
+fn allowed(boxes: u8) -> Vec<Quorums> {
+    let all = (2..=boxes).flat_map(|a| (2..=boxes).map(move |b| of(a, b)));
+    all.filter(|pair| pair.to_decide + pair.to_propose > boxes)
+        .collect()
 }
 
 /// A replica in period 1.
@@ -132,10 +147,24 @@ fn assert_refused(before: Replica, frame: &Frame, refusal: Refusal) {
     assert_unchanged(before, &taken, Answer::Refused(refusal));
 }
 
+/// Document 02, L8: "P6 becomes: N 4, a 2, b 2 refused by 18."
 #[test]
-fn p6_majority() {
-    assert_eq!(majority(4), 3);
-    assert_eq!((majority(3), majority(9)), (2, 5));
+fn p6_quorums() {
+    assert_eq!(check_quorums(4, of(2, 2)), Err(Refusal::Quorums));
+    let made = Replica::new(4, 1, of(2, 2), bench_settings());
+    assert_eq!(made, Err(Refusal::Quorums));
+    assert_eq!(Refusal::Quorums.number(), 18);
+}
+
+/// "a majority is N/2 rounded down, plus 1 (3 gives 2, 4 gives 3, 9 gives 5)"
+#[test]
+fn majorities_are_allowed() {
+    assert_eq!((majority(3), majority(4), majority(9)), (2, 3, 5));
+    for boxes in LEAST_BOXES..=MOST_BOXES {
+        let quorums = Quorums::majorities(boxes);
+        assert_eq!(quorums, of(majority(boxes), majority(boxes)));
+        assert_eq!(check_quorums(boxes, quorums), Ok(()));
+    }
 }
 
 #[test]
@@ -164,7 +193,10 @@ fn p9_p10_best() {
 
 #[test]
 fn n_2_and_10_are_refused() {
-    let new = |boxes, own| Replica::new(boxes, own, bench_settings()).err();
+    let new = |boxes, own| {
+        let quorums = Quorums::majorities(boxes);
+        Replica::new(boxes, own, quorums, bench_settings()).err()
+    };
     assert_eq!(new(2, 1), Some(Refusal::Group));
     assert_eq!(new(10, 1), Some(Refusal::Group));
     assert_eq!(new(3, 0), Some(Refusal::Group));
@@ -178,7 +210,7 @@ fn first_tick_takes_the_readings_without_an_update() {
     let mut settings = bench_settings();
     settings.a[0][0] = 32_768;
     settings.start = [7; 6];
-    let taken = tick(Replica::new(3, 2, settings).unwrap(), 100);
+    let taken = tick(Replica::new(3, 2, of(2, 2), settings).unwrap(), 100);
     assert_eq!(taken.answer, Answer::Ok);
     assert_eq!(taken.replica.estimate.state, [7, 0, 0, 0, 0, 0]);
     assert_eq!(taken.replica.estimate.readings.values, [100, 0, 0, 0]);
@@ -248,7 +280,7 @@ fn giving_up_sends_the_estimate_or_waits_for_others() {
 }
 
 #[test]
-fn a_majority_of_estimates_makes_the_best_the_proposal() {
+fn at_b_estimates_the_best_is_proposed() {
     let waiting = give_up(ticked(4, 2)).replica;
     let one = arrive_frame(waiting, &estimate(3, 1, 1, (0, 1)));
     assert_eq!(one.answer, Answer::Ok);
@@ -377,6 +409,8 @@ fn settings_handed_in_come_before_the_areas_and_these_before_the_event() {
     );
     assert_eq!(step(replica, (68, 24)), Answer::Refused(Refusal::Areas));
     assert_eq!(step(replica, (69, 23)), Answer::Refused(Refusal::Areas));
+    replica.quorums = of(1, 3);
+    assert_eq!(step(replica, (0, 0)), Answer::Refused(Refusal::Quorums));
     replica.settings.lower[0] = 1;
     replica.settings.upper[0] = 0;
     assert_eq!(step(replica, (0, 0)), Answer::Refused(Refusal::Limits));
@@ -456,7 +490,7 @@ fn a_best_estimate_that_is_not_there_takes_no_part() {
 }
 
 #[test]
-fn more_boxes_heard_than_a_majority_go_on_too() {
+fn more_boxes_heard_than_needed_go_on_too() {
     let mut replica = tick(fresh(5, 1), 1).replica;
     replica.heard[1..=4].fill(true);
     assert_ignored(replica, &ack(2, 1, 0));
@@ -555,10 +589,10 @@ struct History {
 }
 
 impl History {
-    fn random(boxes: u8, settings: Settings, random: &mut Random) -> History {
+    fn random(boxes: u8, quorums: Quorums, settings: Settings, random: &mut Random) -> History {
         let mut history = History::default();
         let mut replicas: Vec<Replica> = (1..=boxes)
-            .map(|own| Replica::new(boxes, own, settings).unwrap())
+            .map(|own| Replica::new(boxes, own, quorums, settings).unwrap())
             .collect();
         let mut sent: Vec<Vec<u8>> = Vec::new();
         for _ in 0..150 {
@@ -657,10 +691,12 @@ fn random_histories_satisfy_demand_3() {
     let mut decisions = [[0; 2]; 2];
     for round in 0..3000 {
         let boxes = 3 + (round % 3) as u8;
+        let pairs = allowed(boxes);
+        let quorums = pairs[random.below(pairs.len())];
         let widest = round % 2;
         let limits = [(-200, 300), (i32::MIN, i32::MAX)];
         (settings.lower[0], settings.upper[0]) = limits[widest];
-        let history = History::random(boxes, settings, &mut random);
+        let history = History::random(boxes, quorums, settings, &mut random);
         history.check(&settings);
         for command in history.commands() {
             decisions[widest][usize::from(command[2])] += 1;

@@ -1,14 +1,12 @@
-//! What the files with power cycles in their histories share: what a host
-//! stores and what leaves it, and whether one run of the single controller
-//! gives the commands that left, as demand 3 asks.
+//! What the files with histories share: what leaves the boxes, and whether one
+//! run of the single controller gives the commands that left, as demand 3 asks.
 
 use std::collections::{BTreeMap, BTreeSet};
 
 use second::frame::{self, COMMAND_AREA, FRAME_AREA};
 use second::law::{self, Readings, Settings, State, Updated};
 use second::reading::{Reading, Row};
-use second::record::{self, LENGTH};
-use second::replica::{Answer, Areas, Replica, Step};
+use second::replica::{Answer, Areas, Quorums, Step};
 use second::script::bench_settings;
 
 use crate::random::Random;
@@ -23,36 +21,6 @@ impl Random {
             _ => row[0] = Reading::Count(self.below(1000) as i32 - 500),
         }
         row
-    }
-
-    /// The periods that a box misses, mostly none.
-    pub fn missed(&mut self) -> u32 {
-        [0, 0, 0, 0, 0, 0, 1, 2][self.below(8)]
-    }
-}
-
-/// A record with the rows behind it: row k is that of the k-th tick.
-#[derive(Clone)]
-pub struct Stored {
-    pub record: Vec<u8>,
-    pub rows: Vec<Readings>,
-}
-
-impl Stored {
-    pub fn new(replica: &Replica, rows: &[Readings]) -> Stored {
-        let mut record = vec![0; LENGTH];
-        record::write(replica, &mut record).unwrap();
-        let rows = rows.to_vec();
-        Stored { record, rows }
-    }
-
-    /// The replica that returns, and the rows behind it: the missed periods
-    /// count as ticks without a reading.
-    pub fn come_back(&self, missed: u32) -> (Replica, Vec<Readings>) {
-        let replica = record::return_from(&self.record, missed).unwrap();
-        let mut rows = self.rows.clone();
-        rows.extend(std::iter::repeat_n(Readings::default(), missed as usize));
-        (replica, rows)
     }
 }
 
@@ -97,9 +65,9 @@ impl Left {
         }
     }
 
-    /// Where the last few frames begin.
-    pub fn recent(&self) -> usize {
-        self.frames.len().saturating_sub(6)
+    /// Where the last so many frames begin.
+    pub fn recent(&self, count: usize) -> usize {
+        self.frames.len().saturating_sub(count)
     }
 
     /// Any frame, mostly a recent one.
@@ -157,27 +125,26 @@ fn command_k(settings: &Settings, k: u32, updated: &Updated) -> Vec<u8> {
 }
 
 /// How many of the histories no single controller's run gives, with how many
-/// commands left in all, of which some are marked and some are not. A history
-/// is run with so many boxes, and gives what left them and the rows behind
-/// each.
+/// commands left in all, by byte 2. A history is run for each of these groups,
+/// of so many boxes with these quorums, and gives what left the boxes and the
+/// rows behind each.
 pub fn violations(
-    mut run: impl FnMut(u8, Settings, &mut Random) -> (Left, Vec<Vec<Readings>>),
-) -> (usize, usize) {
+    groups: &[(u8, Quorums)],
+    mut run: impl FnMut(u8, Quorums, Settings, &mut Random) -> (Left, Vec<Vec<Readings>>),
+) -> (usize, [usize; 2]) {
     let mut random = Random::new();
     let mut settings = bench_settings();
     settings.a[0][0] = 60_000;
     settings.start[0] = 700;
     (settings.lower[0], settings.upper[0]) = (-1_000_000_000, 500);
     let mut violations = 0;
-    // By byte 2.
     let mut commands = [0; 2];
-    for round in 0..3000 {
-        let (left, rows) = run(3 + (round % 3) as u8, settings, &mut random);
+    for &(boxes, quorums) in groups {
+        let (left, rows) = run(boxes, quorums, settings, &mut random);
         violations += usize::from(!left.is_one_run(&settings, &rows));
         for command in left.commands() {
             commands[usize::from(command[2])] += 1;
         }
     }
-    assert!(commands.iter().all(|&count| count > 300), "{commands:?}");
-    (violations, commands.iter().sum())
+    (violations, commands)
 }

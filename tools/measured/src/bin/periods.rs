@@ -8,7 +8,7 @@ use measured::boxes::Member;
 use measured::group::{Law, VALUES};
 use measured::periods::Groups;
 use second::reading::{Reading, Row};
-use second::replica::{Areas, Replica};
+use second::replica::{Areas, Quorums, Replica};
 
 /// The calls that are counted, each in a function that is not inlined, so that callgrind has them by name.
 mod steps {
@@ -41,7 +41,8 @@ struct Placed {
 
 impl Placed {
     fn new(law: &Law, boxes: u8, own: u8) -> Placed {
-        let replica = Replica::new(boxes, own, law.second_settings());
+        let quorums = Quorums::majorities(boxes);
+        let replica = Replica::new(boxes, own, quorums, law.second_settings());
         Placed {
             replica: replica.expect("settings that are taken"),
             row: array::from_fn(|j| match j < law.settings.m {

@@ -27,7 +27,7 @@ needed-requires : tie.Need-needed-requires
 needed-requires c κs = search needs
 
 wrong-form-requires : tie.Need-wrong-form-requires
-wrong-form-requires c κs = search needs
+wrong-form-requires c κs = c .needed .ensures .1
 
 enum-known-opening : tie.Need-enum-known-opening
 enum-known-opening c = search needs
@@ -43,7 +43,7 @@ unfolding wrongBy
 returns c =
     let a = c .before .before .before .before .before .before .before .args in
     let fields = add-one _ ∙ ap suc (c .before .before .before .count-spaces .ensures) in
-    let needs = c .before .needed .ensures ∙ ap needed (c .before .before .sizes-in .ensures) in
+    let needs = c .before .needed .ensures .0 ∙ ap needed (c .before .before .sizes-in .ensures) in
     let bad = c .before .before .before .before .enum-told .given .1 in
     c .wrong-form .ensures ∙ ap₂ (λ (f n : ℕ). wrongForm (a .line .now) f n) fields needs
     ∙ ap (λ (o : Opening). wrongBy (a .line .now) o (a .settings)) (sym bad)

@@ -39,8 +39,27 @@ same-requires-2 c κs = search needs
 returns-3 : tie.Need-returns-3
 unfolding isRefusalNumber
 returns-3 c =
-    rw (not-low (c .before .before .before .before .before), sym (c .before .before .before .same .ensures) ∙ c .before .before .if2 .left)
-    (c .same2 .ensures)
+    rw (
+      not-low (c .before .before .before .before .before .before),
+      sym (c .before .before .before .before .same .ensures) ∙ c .before .before .before .if2 .left,
+      sym (c .before .same2 .ensures) ∙ c .if3 .taken,
+    )
+
+slice-aggregate-same-3 : tie.Need-slice-aggregate-same-3
+slice-aggregate-same-3 c = search needs
+
+same-requires-3 : tie.Need-same-requires-3
+same-requires-3 c κs = search needs
+
+returns-4 : tie.Need-returns-4
+unfolding isRefusalNumber
+returns-4 c =
+    rw (
+      not-low (c .before .before .before .before .before .before .before .before),
+      sym (c .before .before .before .before .before .before .same .ensures) ∙ c .before .before .before .before .before .if2 .left,
+      sym (c .before .before .before .same2 .ensures) ∙ c .before .before .if3 .left,
+    )
+    (c .same3 .ensures)
 
 pub is-refusal-number-spec : {M : Type 1} → statement M
 is-refusal-number-spec =
@@ -53,4 +72,7 @@ is-refusal-number-spec =
     returns-2
     slice-aggregate-same-2
     same-requires-2
-    returns-3)
+    returns-3
+    slice-aggregate-same-3
+    same-requires-3
+    returns-4)

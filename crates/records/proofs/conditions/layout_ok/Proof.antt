@@ -1,5 +1,4 @@
 -- `records::conditions::layout_ok` meets its contract. Assumes nothing.
-use mathlib.Core.Bool.{and-assoc}
 use borrow.Author.Needs.{needs}
 use borrow.Author.Tests.{eq-eqb, ne-eqb}
 use Rattle.records.specs.Reading.{layoutOk}
@@ -16,12 +15,9 @@ shared-slice-read-result c = search needs
 shared-slice-read-result-2 : tie.Need-shared-slice-read-result-2
 shared-slice-read-result-2 c = search needs
 
-shared-slice-read-result-3 : tie.Need-shared-slice-read-result-3
-shared-slice-read-result-3 c = search needs
-
 returns-2 : tie.Need-returns-2
 unfolding layoutOk
-returns-2 c = rw (eq-eqb _ _ (c .before .before .before .if1 .left), and-assoc)
+returns-2 c = rw (eq-eqb _ _ (c .before .before .if1 .left))
 
 pub layout-ok-spec : {M : Type 1} → statement M
 layout-ok-spec =
@@ -30,5 +26,4 @@ layout-ok-spec =
     returns
     shared-slice-read-result
     shared-slice-read-result-2
-    shared-slice-read-result-3
     returns-2)

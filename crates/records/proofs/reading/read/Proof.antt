@@ -30,7 +30,7 @@ long : (c : tie.Else1) → length (given (c .before)) ≡ recordLength
 long c = layout-length _ (laid-out c)
 
 abbrev made : tie.After-parts-ok → tie.After-settings-in
-made c = c .before .before .before .before .before .before .before .before
+made c = c .before .before .before .before .before .before .before .before .before
 
 -- what the two parts say together
 found : (c : tie.After-parts-ok) → c .parts-ok .result ≡ isRecord (given (made c .before .before))
@@ -58,7 +58,7 @@ settings-in-requires : tie.Need-settings-in-requires
 settings-in-requires c κs = long c
 
 parts-ok-requires : tie.Need-parts-ok-requires
-parts-ok-requires c κs = long (c .before .before .before .before .before .before .before .before)
+parts-ok-requires c κs = long (c .before .before .before .before .before .before .before .before .before)
 
 refused-requires-2 : tie.Need-refused-requires-2
 refused-requires-2 c κs = search needs

@@ -13,8 +13,8 @@ settings-refusal-requires c κs = search needs
 
 returns : tie.Need-returns
 returns c =
-    let law = c .before .before .before .before .before .before .before .before .before .args .t1 .law in
-    c .settings-refusal .ensures law (c .before .check .ensures ∙ refusal-lent law)
+    let law = c .before .before .before .before .before .before .before .before .before .before .args .t1 .law in
+    c .settings-refusal .ensures law (c .before .before .check .ensures ∙ refusal-lent law)
 
 pub settings-refusal-of-spec : {M : Type 1} → statement M
 settings-refusal-of-spec = tie.close (tie.spec check-requires settings-refusal-requires returns)

@@ -1,7 +1,7 @@
 -- `records::recording::write` meets its contract: the two parts are put one after the other, at the start of the area. Assumes nothing.
 use mathlib.Core.Path.{_≡_, sym, ap, _∙_}
 use mathlib.Core.List.{List}
-use Prim.Native.Nat.{ℕ}
+use Prim.Native.Nat.{ℕ, _≤_}
 use native.Mathlib.Omega.{arith}
 use lib.ListN.{length}
 use mir.Val.{Val}
@@ -14,6 +14,7 @@ use Rattle.law.specs.declared.Settings as Law
 use Rattle.law.proofs.Settings.{the-type, the-field}
 use Rattle.law.proofs.Laws.{sizes-accepted}
 use Rattle.law.proofs.Accepted.{Sizes}
+use Rattle.quorums.proofs.Stand.{stand}
 use Rattle.replica.proofs.Accepted.{accepted}
 use Rattle.records.specs.SettingsPart.{settingsBytes}
 use Rattle.records.specs.HeldPart.{heldBytes}
@@ -35,9 +36,9 @@ owned law vs g = record {
   start = search needs;
 }
 
--- what the types say of the replica: its settings are the first field, and the law's their third
+-- what the types say of the replica: its settings are the first field, and the law's their fourth
 tables : (c : tie.Start) → TypedTables (c .args .replica .settings .law)
-tables c = owned (c .args .replica .settings .law) _ (c .good .0 .1 .1 .0 .1 .1 .1 .1 .0)
+tables c = owned (c .args .replica .settings .law) _ (c .good .0 .1 .1 .0 .1 .1 .1 .1 .1 .0)
 
 ten : (c : tie.Start) → length (c .args .replica .held .heard) ≡ 10
 ten c = search needs
@@ -55,6 +56,14 @@ left c = ready _ _ (pass c)
 sizes : (c : tie.Else1) → let law = start c .args .replica .settings .law in Sizes (law .n) (law .m) (law .p)
 sizes c = sizes-accepted _ (accepted _ (left c .settings) .law)
 
+-- both numbers fit their four bits
+quorums : (c : tie.Else1) → let q = start c .args .replica .settings .quorums in (q .«to_decide» ≤ 9) × (q .«to_propose» ≤ 9)
+quorums c =
+    let a = accepted _ (left c .settings) in
+    let few = a .group .N9 in
+    let s = stand _ _ (a .quorums) in
+    (omega (arith, few, s .aN), omega (arith, few, s .bN))
+
 refusal-requires : tie.Need-refusal-requires
 refusal-requires c κs = search needs
 
@@ -67,7 +76,12 @@ returns c =
 
 put-settings-requires : tie.Need-put-settings-requires
 put-settings-requires c κs =
-    let z = sizes (c .before) in let room = left (c .before) .room in (omega arith, omega arith, omega arith, omega arith)
+    let z = sizes (c .before) in
+    let q = quorums (c .before) in
+    let a = q .0 in
+    let b = q .1 in
+    let room = left (c .before) .room in
+    (omega arith, omega arith, omega arith, omega arith, omega arith)
 
 recorded-held-requires : tie.Need-recorded-held-requires
 recorded-held-requires c κs = sizes (c .before .before .before .before) .n6

@@ -20,7 +20,7 @@ same-length-2 c = search needs
 
 returns : tie.Need-returns
 returns c =
-    let a = c .before .before .before .before .before .before .before .before .before .before .before .before .before .before .before .before .before .before .before .args in
+    let a = c .before .before .before .before .before .before .before .before .before .before .before .before .before .before .before .before .before .before .before .before .args in
     rw (c .step-of .ensures)
     (gives-done (a .t1 .settings)
     (rw (arrive-outcome-lent (a .t1) (length (a .frame .now)) (length (a .command .now)) _) at (c .before .before .before .before .before .arrive .ensures)))

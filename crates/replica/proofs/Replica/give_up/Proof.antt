@@ -17,7 +17,7 @@ same-length c = search needs
 
 returns : tie.Need-returns
 returns c =
-    let a = c .before .before .before .before .before .before .before .before .before .before .before .before .before .before .before .args in
+    let a = c .before .before .before .before .before .before .before .before .before .before .before .before .before .before .before .before .args in
     rw (c .step-of .ensures)
     (gives-done (a .t1 .settings)
     (rw (give-up-outcome-lent (a .t1) (length (a .frame .now)) (length (a .command .now))) at (c .before .before .before .give-up .ensures (a .command .now))))

@@ -20,10 +20,10 @@ same-length c = search needs
 
 returns : tie.Need-returns
 returns c =
-    let a = c .before .before .before .before .before .before .before .before .before .before .before .before .before .before .before .before .args in
+    let a = c .before .before .before .before .before .before .before .before .before .before .before .before .before .before .before .before .before .args in
     rw (c .step-of .ensures)
     (gives-done (a .t1 .settings)
-    (rw (tick-outcome-lent (a .t1) (length (a .frame .now)) (length (a .command .now)) _, c .before .before .before .before .before .before .before .before .before .before .before .before .before .convert-row .ensures) at
+    (rw (tick-outcome-lent (a .t1) (length (a .frame .now)) (length (a .command .now)) _, c .before .before .before .before .before .before .before .before .before .before .before .before .before .before .convert-row .ensures) at
     (c .before .before .before .tick .ensures (a .command .now))))
 
 pub tick-spec : {M : Type 1} → statement M

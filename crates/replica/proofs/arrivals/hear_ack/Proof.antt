@@ -6,8 +6,8 @@ use borrow.Author.Needs.{needs}
 use Rattle.replica.proofs.arrivals.hear_ack.Statement.{statement}
 use Rattle.replica.proofs.arrivals.hear_ack.Tie as tie
 
-majority-heard-requires : tie.Need-majority-heard-requires
-majority-heard-requires c κs = search needs
+quorum-heard-requires : tie.Need-quorum-heard-requires
+quorum-heard-requires c κs = search needs
 
 decide-requires : tie.Need-decide-requires
 decide-requires c κs = search needs
@@ -17,20 +17,20 @@ same-length c = search needs
 
 returns : tie.Need-returns
 unfolding hearAck
-returns c = λ law. says-true _ _ (sym (c .before .before .before .before .before .majority-heard .ensures) ∙ c .before .before .before .before .if1 .taken) (c .before .before .decide .ensures law)
+returns c = λ law. says-true _ _ (sym (c .before .before .before .before .before .quorum-heard .ensures) ∙ c .before .before .before .before .if1 .taken) (c .before .before .decide .ensures law)
 
 hearing-requires : tie.Need-hearing-requires
 hearing-requires c κs = search needs
 
 returns-2 : tie.Need-returns-2
 unfolding hearAck
-returns-2 c = λ law. says-false _ _ (sym (c .before .before .before .majority-heard .ensures) ∙ c .before .before .if1 .left) (says-done (c .hearing .ensures))
+returns-2 c = λ law. says-false _ _ (sym (c .before .before .before .quorum-heard .ensures) ∙ c .before .before .if1 .left) (says-done (c .hearing .ensures))
 
 pub hear-ack-spec : {M : Type 1} → statement M
 hear-ack-spec =
     tie.close
     (tie.spec
-    majority-heard-requires
+    quorum-heard-requires
     decide-requires
     same-length
     returns

@@ -10,8 +10,8 @@ use Rattle.replica.proofs.arrivals.hear_estimate.Tie as tie
 better-requires : tie.Need-better-requires
 better-requires c κs = search needs
 
-majority-heard-requires : tie.Need-majority-heard-requires
-majority-heard-requires c κs = search needs
+quorum-heard-requires : tie.Need-quorum-heard-requires
+quorum-heard-requires c κs = search needs
 
 propose-requires : tie.Need-propose-requires
 propose-requires c κs = search needs
@@ -23,7 +23,7 @@ returns : tie.Need-returns
 unfolding hearEstimate
 returns c =
     λ law.
-    says-true _ _ (sym (c .before .before .before .before .before .before .majority-heard .ensures) ∙ c .before .before .before .before .before .if1 .taken)
+    says-true _ _ (sym (c .before .before .before .before .before .before .quorum-heard .ensures) ∙ c .before .before .before .before .before .if1 .taken)
     (rw (c .before .before .before .before .before .before .before .before .better .ensures) at (c .before .before .propose .ensures law))
 
 hearing-requires : tie.Need-hearing-requires
@@ -34,7 +34,7 @@ unfolding hearEstimate
 returns-2 c =
     λ law.
     let a = c .before .before .before .before .before .before .before .args in
-    says-false _ _ (sym (c .before .before .majority-heard .ensures) ∙ c .before .if1 .left)
+    says-false _ _ (sym (c .before .before .quorum-heard .ensures) ∙ c .before .if1 .left)
     (says-done
     (c .hearing .ensures
     ∙ ap (λ x. heldOf (hearing (heldIn (a .held)) (a .given .«box_number») (bestIn x) (a .held .decided)))
@@ -45,7 +45,7 @@ hear-estimate-spec =
     tie.close
     (tie.spec
     better-requires
-    majority-heard-requires
+    quorum-heard-requires
     propose-requires
     same-length
     returns

@@ -19,6 +19,7 @@ given s =
       settings = record {
         boxes = a .boxes;
         own = a .own;
+        quorums = a .quorums;
         law = settingsOf (a .n) (a .m) (a .p) (a .a .now) (a .l .now) (a .c .now) (a .k .now) (a .low .now) (a .high .now);
       };
       held = a .held;

@@ -21,7 +21,7 @@ returns c =
     let a = c .before .before .before .before .before .before .args in
     rw (c .with-command .ensures)
     (does-silent (c .before .before .before .give-up-view .ensures law)
-    (give-up-silent law (record { boxes = a .boxes; own = a .own; n = a .n; m = a .m }) (heldIn (a .held)) .command) command)
+    (give-up-silent law (record { boxes = a .boxes; own = a .own; quorums = a .quorums; n = a .n; m = a .m }) (heldIn (a .held)) .command) command)
 
 pub give-up-spec : {M : Type 1} → statement M
 give-up-spec = tie.close (tie.spec give-up-view-requires with-command-requires same-length returns)

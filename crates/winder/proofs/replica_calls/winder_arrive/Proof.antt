@@ -48,7 +48,7 @@ long c = layout-length _ (laid-out c)
 
 -- where the settings were read, and the layout before them
 abbrev settled : tie.After-parts-ok → tie.After-settings-in
-settled c = c .before .before .before .before .before .before .before .before .before
+settled c = c .before .before .before .before .before .before .before .before .before .before
 
 abbrev laid : tie.After-parts-ok → tie.Else1
 laid c = settled c .before .before
@@ -91,7 +91,7 @@ settings-in-requires : tie.Need-settings-in-requires
 settings-in-requires c κs = long (c .before)
 
 parts-ok-requires : tie.Need-parts-ok-requires
-parts-ok-requires c κs = long (c .before .before .before .before .before .before .before .before .before .before)
+parts-ok-requires c κs = long (c .before .before .before .before .before .before .before .before .before .before .before)
 
 same-length-2 : tie.Need-same-length-2
 same-length-2 c = search needs
@@ -119,11 +119,11 @@ held-at-requires c κs = omega (arith, long (laid (c .before .before .before .be
 
 arrive-requires : tie.Need-arrive-requires
 arrive-requires c κs =
-    let e = c .before .before .before .before .before .before .before .before .before in
+    let e = c .before .before .before .before .before .before .before .before .before .before in
     let s = stand e in (settings-lent (found e .settings) ∙ stands-settings s, stands-room s .frame-room, stands-room s .command-room)
 
 leave-requires : tie.Need-leave-requires
-leave-requires c κs = stands-length (stand (c .before .before .before .before .before .before .before .before .before .before .before .before .before .before .before .before))
+leave-requires c κs = stands-length (stand (c .before .before .before .before .before .before .before .before .before .before .before .before .before .before .before .before .before))
 
 same-length-4 : tie.Need-same-length-4
 same-length-4 c = search needs
@@ -136,7 +136,7 @@ same-length-6 c = search needs
 
 returns-4 : tie.Need-returns-4
 returns-4 c =
-    let e = c .before .before .before .before .before .before .before .before .before .before .before .before .before .before .before .before .before .before .before in
+    let e = c .before .before .before .before .before .before .before .before .before .before .before .before .before .before .before .before .before .before .before .before in
     let f = first (laid (origin e) .before) in
     let l = c .before .before .leave .ensures in
     arrive-stepped (stand e) (bytes f) (l .0) (l .1 .0) (l .1 .1) (f .before .args .bytes .now) (c .before .before .before .before .before .before .before .before .before .arrive .ensures)

@@ -48,7 +48,7 @@ long c = layout-length _ (laid-out c)
 
 -- where the settings were read, and the layout before them
 abbrev settled : tie.After-parts-ok → tie.After-settings-in
-settled c = c .before .before .before .before .before .before .before .before .before
+settled c = c .before .before .before .before .before .before .before .before .before .before
 
 abbrev laid : tie.After-parts-ok → tie.Else1
 laid c = settled c .before .before
@@ -91,7 +91,7 @@ settings-in-requires : tie.Need-settings-in-requires
 settings-in-requires c κs = long (c .before)
 
 parts-ok-requires : tie.Need-parts-ok-requires
-parts-ok-requires c κs = long (c .before .before .before .before .before .before .before .before .before .before)
+parts-ok-requires c κs = long (c .before .before .before .before .before .before .before .before .before .before .before)
 
 same-length-2 : tie.Need-same-length-2
 same-length-2 c = search needs
@@ -119,10 +119,10 @@ held-at-requires c κs = omega (arith, long (laid (c .before .before .before .be
 
 give-up-requires : tie.Need-give-up-requires
 give-up-requires c κs =
-    let s = stand (c .before) in (fit (found (c .before) .settings) (stands-settings s), stands-room s .frame-room)
+    let s = stand (c .before .before) in (fit (found (c .before .before) .settings) (stands-settings s), stands-room s .frame-room)
 
 leave-requires : tie.Need-leave-requires
-leave-requires c κs = stands-length (stand (c .before .before .before .before .before .before))
+leave-requires c κs = stands-length (stand (c .before .before .before .before .before .before .before))
 
 same-length-4 : tie.Need-same-length-4
 same-length-4 c = search needs
@@ -132,7 +132,7 @@ same-length-5 c = search needs
 
 returns-4 : tie.Need-returns-4
 returns-4 c =
-    let e = c .before .before .before .before .before .before .before .before .before in
+    let e = c .before .before .before .before .before .before .before .before .before .before in
     let f = first (laid (origin e) .before) in
     let l = c .before .before .leave .ensures in
     let law = found e .settings .law in

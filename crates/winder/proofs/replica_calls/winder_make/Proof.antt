@@ -19,7 +19,7 @@ use Rattle.winder.proofs.replica_calls.winder_make.Tie as tie
 abbrev given : tie.Start → Settings
 given s =
     let a = s .args in
-    settingsOf (a .n) (a .m) (a .p) (a .a .now) (a .l .now) (a .c .now) (a .k .now) (a .low .now) (a .high .now) (a .start .now) (a .boxes) (a .own)
+    settingsOf (a .n) (a .m) (a .p) (a .a .now) (a .l .now) (a .c .now) (a .k .now) (a .low .now) (a .high .now) (a .start .now) (a .boxes) (a .own) (a .to-decide) (a .to-propose)
 
 -- how the call started
 abbrev start : tie.After-is-done → tie.Start

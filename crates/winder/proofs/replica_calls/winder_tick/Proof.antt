@@ -49,7 +49,7 @@ long c = layout-length _ (laid-out c)
 
 -- where the settings were read, and the layout before them
 abbrev settled : tie.After-parts-ok → tie.After-settings-in
-settled c = c .before .before .before .before .before .before .before .before .before
+settled c = c .before .before .before .before .before .before .before .before .before .before
 
 abbrev laid : tie.After-parts-ok → tie.Else1
 laid c = settled c .before .before
@@ -92,7 +92,7 @@ settings-in-requires : tie.Need-settings-in-requires
 settings-in-requires c κs = long (c .before)
 
 parts-ok-requires : tie.Need-parts-ok-requires
-parts-ok-requires c κs = long (c .before .before .before .before .before .before .before .before .before .before)
+parts-ok-requires c κs = long (c .before .before .before .before .before .before .before .before .before .before .before)
 
 same-length-2 : tie.Need-same-length-2
 same-length-2 c = search needs
@@ -126,11 +126,11 @@ convert-row-requires c κs = search needs
 
 tick-requires : tie.Need-tick-requires
 tick-requires c κs =
-    let e = c .before .before .before .before .before .before .before .before .before .before in
+    let e = c .before .before .before .before .before .before .before .before .before .before .before in
     let s = stand e in (settings-lent (found e .settings) ∙ stands-settings s, stands-room s .frame-room)
 
 leave-requires : tie.Need-leave-requires
-leave-requires c κs = stands-length (stand (c .before .before .before .before .before .before .before .before .before .before .before .before .before .before .before))
+leave-requires c κs = stands-length (stand (c .before .before .before .before .before .before .before .before .before .before .before .before .before .before .before .before))
 
 same-length-4 : tie.Need-same-length-4
 same-length-4 c = search needs
@@ -140,10 +140,10 @@ same-length-5 c = search needs
 
 returns-4 : tie.Need-returns-4
 returns-4 c =
-    let e = c .before .before .before .before .before .before .before .before .before .before .before .before .before .before .before .before .before .before in
+    let e = c .before .before .before .before .before .before .before .before .before .before .before .before .before .before .before .before .before .before .before in
     let f = first (laid (origin e) .before) in
     let l = c .before .before .leave .ensures in
-    let y = c .before .before .before .before .before .before .before .before .before .before .before .before .before .before .before .before .convert-row .ensures ∙ ap convertedRow (c .before .before .before .before .before .before .before .before .before .before .before .before .before .before .before .before .before .readings-of .ensures) in
+    let y = c .before .before .before .before .before .before .before .before .before .before .before .before .before .before .before .before .before .convert-row .ensures ∙ ap convertedRow (c .before .before .before .before .before .before .before .before .before .before .before .before .before .before .before .before .before .before .readings-of .ensures) in
     tick-stepped (stand e) (bytes f) (l .0) (l .1 .0) (l .1 .1) y (c .before .before .before .before .before .before .before .tick .ensures (f .before .args .command .now))
 
 pub winder-tick-spec : {M : Type 1} → statement M

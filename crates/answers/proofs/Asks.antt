@@ -14,7 +14,7 @@ use Rattle.scram.specs.Answers.{Answered, Done, Ignored, Refused, answered}
 use Rattle.scram.specs.History.{In}
 use Rattle.scram.specs.Held.{Held}
 use Rattle.law.specs.Settings.{refusals}
-use Rattle.bytes.specs.Areas.{over}
+use Rattle.octets.specs.Areas.{over}
 use Rattle.replica.specs.declared.Settings.{Settings}
 use Rattle.replica.specs.Settings.{settings_refusals, settings_refusal}
 use Rattle.replica.specs.Held.{held_in, held_of}

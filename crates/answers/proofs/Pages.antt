@@ -5,7 +5,7 @@ use mathlib.Core.List.{List, []}
 use Prim.Native.Nat.{ℕ}
 use lib.ListN.{length}
 use Rattle.scram.specs.History.{In}
-use Rattle.bytes.specs.Areas.{over}
+use Rattle.octets.specs.Areas.{over}
 use Rattle.pages.specs.declared.entries.Entry.{Entry}
 use Rattle.pages.specs.Answers.{number}
 use Rattle.pages.specs.Writing.{write_refusal, written}

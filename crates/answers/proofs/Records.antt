@@ -10,7 +10,7 @@ use Rattle.lists.proofs.Choice.{pick-holds, pick-false}
 use Rattle.scram.specs.Answers.{Done, Refused, answered}
 use Rattle.scram.specs.History.{In}
 use Rattle.law.specs.Settings.{refusals}
-use Rattle.bytes.specs.Areas.{over}
+use Rattle.octets.specs.Areas.{over}
 use Rattle.replica.specs.declared.Settings.{Settings}
 use Rattle.replica.specs.declared.Replica.{Replica}
 use Rattle.replica.specs.Settings.{settings_refusals, blank_settings}

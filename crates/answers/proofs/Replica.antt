@@ -14,7 +14,7 @@ use Rattle.scram.specs.Answers.{Answered, Done, Ignored, answered}
 use Rattle.scram.specs.History.{In}
 use Rattle.scram.specs.Events.{refusing}
 use Rattle.law.specs.Settings.{refusals}
-use Rattle.bytes.specs.Areas.{over}
+use Rattle.octets.specs.Areas.{over}
 use Rattle.replica.specs.declared.Settings.{Settings}
 use Rattle.replica.specs.declared.Replica.{Replica}
 use Rattle.replica.specs.Settings.{bad_group, settings_refusals, settings_refusal, blank_settings}

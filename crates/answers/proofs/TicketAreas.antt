@@ -14,7 +14,7 @@ use Rattle.readings.specs.declared.Readings.{Readings}
 use Rattle.scram.specs.Answers.{Answered, Done, Ignored, Refused}
 use Rattle.scram.specs.History.{In}
 use Rattle.scram.specs.Events.{refusing}
-use Rattle.bytes.specs.Areas.{over}
+use Rattle.octets.specs.Areas.{over}
 use Rattle.replica.specs.declared.Settings.{Settings}
 use Rattle.replica.specs.declared.Replica.{Replica}
 use Rattle.replica.specs.Settings.{settings_refusal}

@@ -16,7 +16,7 @@ use Rattle.law.specs.declared.Commanded.{Commanded}
 use Rattle.law.specs.Answer.{number as law_number}
 use Rattle.law.specs.Settings.{refusal, settings_of}
 use Rattle.law.specs.Law.{updated, update_limited, commanded, command_limited}
-use Rattle.bytes.specs.Areas.{over}
+use Rattle.octets.specs.Areas.{over}
 use Rattle.estimate.specs.Marks.{bit}
 use Rattle.frame.specs.declared.Frame.{Frame}
 use Rattle.frame.specs.declared.Parsed.{Parsed}

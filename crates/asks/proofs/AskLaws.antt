@@ -8,7 +8,7 @@ use lib.Dec.{eqb}
 use Rattle.lists.specs.Choice.{pick}
 use Rattle.lists.proofs.Booleans.{never}
 use Rattle.lists.proofs.Choice.{pick_true, pick-false}
-use Rattle.bytes.specs.Areas.{over}
+use Rattle.octets.specs.Areas.{over}
 use Rattle.scram.specs.declared.Answer.{Answer}
 use Rattle.scram.specs.declared.Answer.TheVariants as Answer
 use Rattle.scram.specs.Answers.{Answered, Done, Ignored, Refused, answered}

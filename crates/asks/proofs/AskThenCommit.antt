@@ -8,7 +8,7 @@ use lib.Dec.{eqb}
 use borrow.Author.Tests.{eqb-true, eqb-false, eq-eqb, le-ltb, ne_eqb}
 use Rattle.lists.specs.Choice.{pick}
 use Rattle.lists.proofs.Choice.{pick_true, pick-false}
-use Rattle.bytes.specs.Areas.{over}
+use Rattle.octets.specs.Areas.{over}
 use Rattle.transmitters.specs.declared.Reading.{Reading}
 use Rattle.scram.specs.Answers.{Answered, Done, Refused, answered}
 use Rattle.scram.specs.Events.{refusing}

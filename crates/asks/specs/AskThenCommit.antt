@@ -1,6 +1,6 @@
 -- "committing that ticket makes exactly that step": asking and committing give what the step gives, for every event and every replica.
 use Rattle.std.specs.Prelude.{ℕ, ◌≤◌, ◌≡◌, true, false, List, length}
-use Rattle.bytes.specs.Areas.{over}
+use Rattle.octets.specs.Areas.{over}
 use Rattle.transmitters.specs.declared.Reading.{Reading}
 use Rattle.transmitters.specs.Conversion.{converted_row}
 use Rattle.scram.specs.Answers.{Done, answered}

@@ -2,7 +2,7 @@
 -- replica holds after it: no step changes the settings.
 use Rattle.std.specs.Prelude.{ℕ, ◌≡◌, List, [], length, eqb}
 use Rattle.lists.specs.Choice.{pick}
-use Rattle.bytes.specs.Areas.{over}
+use Rattle.octets.specs.Areas.{over}
 use Rattle.scram.specs.Answers.{Answered, Done, Ignored, Refused, answered}
 use Rattle.scram.specs.Events.{refusing, ignoring}
 use Rattle.scram.specs.declared.Answer.{Answer}

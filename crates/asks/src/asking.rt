@@ -1,7 +1,7 @@
 // What the three asks share, and the three steps.
 ghost use Rattle.std.specs.Prelude.{◌≡◌, [], length};
 ghost use Rattle.lists.specs.Choice.{pick};
-ghost use Rattle.bytes.specs.Areas.{over};
+ghost use Rattle.octets.specs.Areas.{over};
 ghost use Rattle.scram.specs.Answers.{answered};
 ghost use Rattle.records.specs.Recording.{recorded};
 ghost use Rattle.records.specs.Reading.{is_done};

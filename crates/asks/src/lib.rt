@@ -1,4 +1,6 @@
 // Asking first: a replica with tickets beside it, as a value. An event is asked, which makes no step, and its ticket is committed, which makes that step.
+#![tactic(auto)]
+
 pub mod asking;
 pub mod ticket;
 

@@ -1,6 +1,8 @@
 // The bench of document 01: three boxes with one state, one reading and one command, played by the lines of standard input. What it prints of them
 // is `bench_output` of script/specs/Script.antt, by the contract of `script::output::bench`. The lines so far are played again whenever more come, and
 // what is new is printed, so that lines typed at a terminal are answered at once.
+#![tactic(auto)]
+
 use console::CHUNK;
 use script::output::OUTPUT;
 

@@ -10,7 +10,7 @@ use Rattle.lists.specs.Choice.{pick}
 use Rattle.lists.specs.Below.{all_below, any_below}
 use Rattle.lists.specs.Places.{filled}
 use Rattle.lists.specs.Refusals.{first_of}
-use Rattle.bytes.specs.Words.{little_endian, spelled, number_at, twos_complement, from_twos_complement, values_bytes, value_at}
+use Rattle.octets.specs.Words.{little_endian, spelled, number_at, twos_complement, from_twos_complement, values_bytes, value_at}
 use Rattle.readings.specs.Readings.{normalised, any_mark, mark_beyond}
 use Rattle.transmitters.specs.Single.{exponent, magnitude, scale, floor, in_units}
 use Rattle.transmitters.specs.Conversion.{within_i32, converted_single, converted_newtons, converted, converted_row}

@@ -17,7 +17,7 @@ use Rattle.law.specs.Fixed.{minus, divided, sum, limited, clamp}
 use Rattle.law.specs.Settings.{sizes_in_range, in_range, table_in_range, coefficients_in_range, limits_in_order, refusals, refusal}
 use Rattle.law.specs.Law.{e, next, updated}
 use Rattle.frame.specs.declared.Frame.{Frame}
-use Rattle.bytes.specs.Words.{little_endian}
+use Rattle.octets.specs.Words.{little_endian}
 use Rattle.estimate.specs.Fields.{no_estimate}
 use Rattle.estimate.specs.Marks.{bit}
 use Rattle.frame.specs.Kinds.{any_of, parts_of, part_count, has_parts}

@@ -1,5 +1,7 @@
 // Standard input gathered into one area as it comes, standard output and standard error. No contract can say what standard input held, nor what was
 // written: the contracts here speak of lengths and of areas alone.
+#![tactic(auto)]
+
 ghost use Rattle.std.specs.Prelude.{◌≡◌, ◌≤◌, length, take, drop};
 ghost use Rattle.lists.specs.Choice.{pick};
 

@@ -14,9 +14,9 @@ use Rattle.lists.proofs.Booleans.{both}
 use Rattle.lists.proofs.Places.{filled-same, take-filled}
 use Rattle.readings.specs.declared.Readings.{Readings}
 use Rattle.readings.specs.Readings.{value, normalised, mark_beyond}
-use Rattle.bytes.specs.Words.{AllBytes, values_bytes, value_at}
-use Rattle.bytes.proofs.Numbers.{bytes_drop}
-use Rattle.bytes.proofs.ValueLists.{value-forth, values-back}
+use Rattle.octets.specs.Words.{AllBytes, values_bytes, value_at}
+use Rattle.octets.proofs.Numbers.{bytes_drop}
+use Rattle.octets.proofs.ValueLists.{value-forth, values-back}
 use Rattle.estimate.specs.Fields.{first_states}
 use Rattle.estimate.specs.Lengths.{state_length, readings_length}
 use Rattle.estimate.specs.Marks.{marks_byte, marks_below, absent_zero}

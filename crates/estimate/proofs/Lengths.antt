@@ -6,7 +6,7 @@ use native.Mathlib.Omega.{arith}
 use lib.ListN.{length, length-append}
 use lib.IntN.{ℤ}
 use Rattle.readings.specs.declared.Readings.{Readings}
-use Rattle.bytes.proofs.ValueLists.{length-first}
+use Rattle.octets.proofs.ValueLists.{length-first}
 use Rattle.estimate.specs.declared.Estimate.{Estimate}
 use Rattle.estimate.specs.Lengths.{state_length, readings_length, estimate_length}
 use Rattle.estimate.specs.Format.{state_bytes, readings_bytes, estimate_bytes}

@@ -7,8 +7,8 @@ use native.Mathlib.Omega.{arith}
 use lib.ListN.{length, take, drop}
 use lib.Seq.{take-add, take_at, drop_at, drop-drop}
 use Rattle.readings.specs.Readings.{normalised}
-use Rattle.bytes.specs.Words.{AllBytes, part}
-use Rattle.bytes.proofs.Numbers.{bytes-part, length_part}
+use Rattle.octets.specs.Words.{AllBytes, part}
+use Rattle.octets.proofs.Numbers.{bytes-part, length_part}
 use Rattle.estimate.specs.declared.Estimate.{Estimate}
 use Rattle.estimate.specs.Fields.{TypedEstimate, first_states, carried_estimate}
 use Rattle.estimate.specs.Lengths.{state_length, readings_length, estimate_length}

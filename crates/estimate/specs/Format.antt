@@ -2,7 +2,7 @@
 use Rattle.std.specs.Prelude.{ℕ, Bool, not, ◌&&◌, List, ◌∷◌, ◌++◌, take, ℤ}
 use Rattle.readings.specs.declared.Readings.{Readings}
 use Rattle.readings.specs.Readings.{mark_beyond}
-use Rattle.bytes.specs.Words.{values_bytes}
+use Rattle.octets.specs.Words.{values_bytes}
 use Rattle.estimate.specs.Marks.{marks_byte, absent_zero}
 use Rattle.estimate.specs.declared.Estimate.{Estimate}
 

@@ -1,6 +1,6 @@
 -- The lengths of an estimate's two parts.
 use Rattle.std.specs.Prelude.{ℕ, ◌+◌, ◌*◌}
-use Rattle.bytes.specs.Words.{value_length}
+use Rattle.octets.specs.Words.{value_length}
 
 -- the state's part: "n i32 values"
 abbrev pub state_length : ℕ → ℕ

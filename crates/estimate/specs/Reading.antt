@@ -2,7 +2,7 @@
 use Rattle.std.specs.Prelude.{ℕ, ◌+◌, Bool, ◌&&◌, List, get_or, drop, ℤ, pos}
 use Rattle.lists.specs.Places.{filled}
 use Rattle.readings.specs.declared.Readings.{Readings}
-use Rattle.bytes.specs.Words.{part, value_at}
+use Rattle.octets.specs.Words.{part, value_at}
 use Rattle.estimate.specs.Lengths.{state_length, readings_length}
 use Rattle.estimate.specs.Marks.{marks_in, marks_below, absent_zero}
 use Rattle.estimate.specs.declared.Estimate.{Estimate}

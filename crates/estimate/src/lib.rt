@@ -1,4 +1,6 @@
 // An estimate, and its two parts as bytes. Callers are proved; what is open to others is in frame.
+#![tactic(auto)]
+
 pub mod marks;
 pub mod parts;
 

@@ -1,14 +1,14 @@
 // The state's part and the readings' part: their lengths, reading each from its own, and writing both.
 ghost use Rattle.std.specs.Prelude.{◌≡◌, ◌+◌, ◌≤◌, length};
-ghost use Rattle.bytes.specs.Areas.{put};
+ghost use Rattle.octets.specs.Areas.{put};
 ghost use Rattle.estimate.specs.Lengths.{state_length, readings_length, estimate_length};
 ghost use Rattle.estimate.specs.Format.{estimate_bytes};
 ghost use Rattle.estimate.specs.Reading.{state_in, readings_in};
 
 use crate::Estimate;
 use crate::marks::{marks_byte, marks_in};
-use bytes::values::{VALUE_LENGTH, put_values, read_values};
-use bytes::word::put_byte;
+use octets::values::{VALUE_LENGTH, put_values, read_values};
+use octets::word::put_byte;
 use readings::Readings;
 
 pub fn state_length(n: usize) -> usize

@@ -7,8 +7,8 @@ use native.Mathlib.Omega.{arith}
 use lib.ListN.{length, get_or, take, drop}
 use lib.Seq.{take-add, take_all, drop-drop}
 use Rattle.lists.proofs.Booleans.{both}
-use Rattle.bytes.specs.Words.{AllBytes, little_endian, part, number_at}
-use Rattle.bytes.proofs.Numbers.{number-back, first-four}
+use Rattle.octets.specs.Words.{AllBytes, little_endian, part, number_at}
+use Rattle.octets.proofs.Numbers.{number-back, first-four}
 use Rattle.estimate.specs.declared.Estimate.{Estimate}
 use Rattle.estimate.specs.Fields.{no_estimate}
 use Rattle.estimate.specs.Lengths.{state_length, readings_length, estimate_length}

@@ -5,7 +5,7 @@ use Prim.Native.Nat.{ℕ}
 use lib.ListN.{length}
 use Rattle.lists.specs.Choice.{pick}
 use Rattle.lists.proofs.Choice.{pick_true}
-use Rattle.bytes.specs.Words.{little_endian, twos_complement, values_bytes}
+use Rattle.octets.specs.Words.{little_endian, twos_complement, values_bytes}
 use Rattle.estimate.specs.Marks.{marks_byte}
 use Rattle.estimate.specs.Format.{state_bytes, readings_bytes, estimate_bytes}
 use Rattle.frame.specs.Sizes.{sizes_ok}

@@ -11,9 +11,9 @@ use lib.Dec.{eqb}
 use Rattle.lists.specs.Choice.{pick}
 use Rattle.lists.specs.Places.{filled}
 use Rattle.lists.proofs.Places.{filled-same, take-filled}
-use Rattle.bytes.specs.Words.{AllBytes, little_endian, values_bytes, value_at}
-use Rattle.bytes.proofs.Numbers.{bytes_drop, first-four, length-little_endian, number-back}
-use Rattle.bytes.proofs.ValueLists.{length-first, values-back}
+use Rattle.octets.specs.Words.{AllBytes, little_endian, values_bytes, value_at}
+use Rattle.octets.proofs.Numbers.{bytes_drop, first-four, length-little_endian, number-back}
+use Rattle.octets.proofs.ValueLists.{length-first, values-back}
 use Rattle.estimate.specs.Marks.{bit}
 use Rattle.estimate.proofs.EachPart.{values-forth}
 use Rattle.frame.specs.Sizes.{commands_ok}

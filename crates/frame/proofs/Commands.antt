@@ -4,8 +4,8 @@ use mathlib.Core.Bool.{Bool}
 use mathlib.Core.List.{List}
 use Prim.Native.Nat.{ℕ, ◌<◌, ◌^◌}
 use lib.IntN.{ℤ}
-use Rattle.bytes.specs.Words.{little_endian, number_at}
-use Rattle.bytes.proofs.Numbers.{spelled-little_endian}
+use Rattle.octets.specs.Words.{little_endian, number_at}
+use Rattle.octets.proofs.Numbers.{spelled-little_endian}
 use Rattle.frame.specs.Command.{command_bytes, command_period}
 
 pub period-read : (p period : ℕ) (values : List ℤ) (limited : Bool) → period < 2 ^ 32 → command_period (command_bytes p period values limited) ≡ period

@@ -9,7 +9,7 @@ use lib.Dec.{eqb, leb}
 use borrow.Author.Tests.{eq-eqb, ne_eqb, eqb-true, leb-true}
 use Rattle.lists.proofs.Booleans.{both}
 use Rattle.lists.proofs.Choice.{pick-ok, pick_true, pick-false}
-use Rattle.bytes.specs.Words.{number_at}
+use Rattle.octets.specs.Words.{number_at}
 use Rattle.estimate.specs.Lengths.{state_length, readings_length, estimate_length}
 use Rattle.frame.specs.Sizes.{sizes_ok}
 use Rattle.frame.specs.Kinds.{kind_ok, part_count, has_parts}

@@ -15,7 +15,7 @@ use Rattle.lists.proofs.Booleans.{second-fails}
 use Rattle.lists.proofs.Places.{filled_at}
 use Rattle.lists.proofs.Below.{one-fails}
 use Rattle.readings.specs.Readings.{present}
-use Rattle.bytes.specs.Words.{number_at, from_twos_complement, value_at}
+use Rattle.octets.specs.Words.{number_at, from_twos_complement, value_at}
 use Rattle.estimate.specs.Marks.{marks_in, marks_below, is_zero, absent_zero}
 use Rattle.estimate.specs.Reading.{marks_at, readings_in, readings_ok}
 use Rattle.estimate.proofs.PresentMarks.{marks-below, below-clean}

@@ -8,8 +8,8 @@ use lib.ListN.{length, get_or, take, drop}
 use lib.Seq.{take_all, drop_at, drop-drop}
 use Rattle.lists.proofs.Booleans.{both}
 use Rattle.lists.proofs.Choice.{pick_true, pick-false}
-use Rattle.bytes.specs.Words.{little_endian, spelled, part, number_at}
-use Rattle.bytes.proofs.Numbers.{spelled-little_endian}
+use Rattle.octets.specs.Words.{little_endian, spelled, part, number_at}
+use Rattle.octets.proofs.Numbers.{spelled-little_endian}
 use Rattle.estimate.specs.declared.Estimate.{Estimate}
 use Rattle.estimate.specs.Lengths.{state_length, readings_length, estimate_length}
 use Rattle.estimate.specs.Fields.{no_estimate}

@@ -6,7 +6,7 @@ use Prim.Native.Nat.{ℕ, ◌+◌, ◌≤◌}
 use native.Mathlib.Omega.{arith}
 use lib.ListN.{length, length-append}
 use Rattle.lists.proofs.Choice.{pick-ok, pick_true, pick-false}
-use Rattle.bytes.specs.Words.{little_endian}
+use Rattle.octets.specs.Words.{little_endian}
 use Rattle.estimate.specs.Lengths.{estimate_length}
 use Rattle.estimate.specs.Format.{estimate_bytes}
 use Rattle.estimate.proofs.Lengths.{length-estimate}

@@ -5,7 +5,7 @@ use mathlib.Core.List.{List}
 use Prim.Native.Nat.{ℕ}
 use native.Mathlib.Omega.{arith}
 use Rattle.frame.specs.Sizes.{sizes_ok}
-use Rattle.bytes.specs.Words.{AllBytes}
+use Rattle.octets.specs.Words.{AllBytes}
 use Rattle.frame.specs.Format.{frame_bytes}
 use Rattle.frame.specs.Fields.{Typed, carried}
 use Rattle.frame.specs.Reading.{read_refusal, read_frame, ReadAs}

@@ -3,7 +3,7 @@ use Rattle.std.specs.Prelude.{ℕ, Bool, not, ◌&&◌, List, [], ◌∷◌, ◌
 use Rattle.lists.specs.Choice.{pick}
 use Rattle.lists.specs.Places.{filled}
 use Rattle.lists.specs.Refusals.{refusal, first_of}
-use Rattle.bytes.specs.Words.{little_endian, number_at, values_bytes, value_at}
+use Rattle.octets.specs.Words.{little_endian, number_at, values_bytes, value_at}
 use Rattle.estimate.specs.Marks.{bit}
 use Rattle.frame.specs.Sizes.{commands_ok}
 use Rattle.frame.specs.Lengths.{command_start, longest_command}

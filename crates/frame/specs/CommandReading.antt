@@ -5,7 +5,7 @@ use Rattle.lists.specs.Choice.{pick}
 use Rattle.lists.specs.Places.{entry, filled}
 use Rattle.lists.specs.I32.{AllI32}
 use Rattle.lists.specs.Refusals.{refusal, first_of}
-use Rattle.bytes.specs.Words.{value_at}
+use Rattle.octets.specs.Words.{value_at}
 use Rattle.frame.specs.Sizes.{commands_ok}
 use Rattle.frame.specs.Lengths.{command_start, command_length}
 use Rattle.frame.specs.Command.{command_period}

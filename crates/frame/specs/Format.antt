@@ -1,7 +1,7 @@
 -- The bytes of a frame, as document 01 lays them out under "Frames".
 use Rattle.std.specs.Prelude.{ℕ, ◌+◌, List, [], ◌∷◌, ◌++◌}
 use Rattle.lists.specs.Choice.{pick}
-use Rattle.bytes.specs.Words.{little_endian}
+use Rattle.octets.specs.Words.{little_endian}
 use Rattle.estimate.specs.Lengths.{state_length, readings_length}
 use Rattle.estimate.specs.Format.{estimate_bytes}
 use Rattle.frame.specs.Kinds.{part_count, has_parts}

@@ -1,7 +1,7 @@
 -- Every length of a frame or a command that document 01 names, and what each of them follows from.
 use Rattle.std.specs.Prelude.{ℕ, ◌+◌, ◌*◌}
 use Rattle.lists.specs.Choice.{pick}
-use Rattle.bytes.specs.Words.{value_length}
+use Rattle.octets.specs.Words.{value_length}
 use Rattle.estimate.specs.Lengths.{estimate_length}
 use Rattle.frame.specs.Kinds.{has_parts}
 

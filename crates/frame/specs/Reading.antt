@@ -3,7 +3,7 @@
 use Rattle.std.specs.Prelude.{ℕ, ◌+◌, ◌≡◌, Bool, not, ◌&&◌, ◌||◌, List, [], ◌∷◌, length, get_or, eqb}
 use Rattle.lists.specs.Choice.{pick}
 use Rattle.lists.specs.Refusals.{refusal, first_of}
-use Rattle.bytes.specs.Words.{number_at}
+use Rattle.octets.specs.Words.{number_at}
 use Rattle.estimate.specs.declared.Estimate.{Estimate}
 use Rattle.estimate.specs.Fields.{no_estimate}
 use Rattle.estimate.specs.Lengths.{state_length, readings_length}

@@ -1,14 +1,14 @@
 // The bytes of a command.
 ghost use Rattle.std.specs.Prelude.{◌≡◌, ◌≤◌, length};
-ghost use Rattle.bytes.specs.Areas.{put};
+ghost use Rattle.octets.specs.Areas.{put};
 ghost use Rattle.frame.specs.Lengths.{command_length, longest_command};
 ghost use Rattle.frame.specs.Command.{command_bytes};
 ghost use Rattle.frame.specs.CommandReading.{is_command, command_in};
 
 use crate::CommandFields;
 use crate::lengths::{COMMAND_START, command_length};
-use bytes::values::{VALUE_LENGTH, put_values, read_values};
-use bytes::word::{put_4, put_u32, u32_at};
+use octets::values::{VALUE_LENGTH, put_values, read_values};
+use octets::word::{put_4, put_u32, u32_at};
 use estimate::marks::bit_of;
 
 // Writes a command and returns its length.

@@ -1,6 +1,6 @@
 // The bytes that every frame starts with.
 ghost use Rattle.std.specs.Prelude.{◌≡◌, ◌≤◌, length};
-ghost use Rattle.bytes.specs.Areas.{put};
+ghost use Rattle.octets.specs.Areas.{put};
 ghost use Rattle.frame.specs.Lengths.{header_length};
 ghost use Rattle.frame.specs.Format.{header};
 ghost use Rattle.frame.specs.Reading.{header_ok, headed};
@@ -8,7 +8,7 @@ ghost use Rattle.frame.specs.Reading.{header_ok, headed};
 use crate::Frame;
 use crate::kinds::{kind_ok, part_count};
 use crate::lengths::{HEADER_LENGTH, frame_length};
-use bytes::word::{put_4, put_u32, u32_at};
+use octets::word::{put_4, put_u32, u32_at};
 use estimate::Estimate;
 
 // Length, kind, part count and byte 3 are what they must be.

@@ -3,7 +3,7 @@ ghost use Rattle.std.specs.Prelude.{◌≡◌, ◌≤◌};
 ghost use Rattle.frame.specs.Lengths.{frame_length, command_length};
 
 use crate::kinds::has_parts;
-use bytes::values::VALUE_LENGTH;
+use octets::values::VALUE_LENGTH;
 use estimate::parts::estimate_length;
 
 pub(crate) const HEADER_LENGTH: usize = 20;

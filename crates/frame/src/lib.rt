@@ -1,4 +1,6 @@
 // The frames of document 01: read from bytes, and written to an area that the caller lends.
+#![tactic(auto)]
+
 mod command;
 mod header;
 pub mod kinds;
@@ -6,7 +8,7 @@ pub mod lengths;
 mod parts;
 
 ghost use Rattle.std.specs.Prelude.{◌≡◌, ◌≤◌, length};
-ghost use Rattle.bytes.specs.Areas.{put, over};
+ghost use Rattle.octets.specs.Areas.{put, over};
 ghost use Rattle.frame.specs.Answers.{number};
 ghost use Rattle.frame.specs.Sizes.{sizes_ok};
 ghost use Rattle.frame.specs.Lengths.{longest_frame};
@@ -17,7 +19,7 @@ ghost use Rattle.frame.specs.Writing.{well_formed, write_refusal, written};
 ghost use Rattle.frame.specs.Command.{command_refusal, command_written, command_values, command_limited};
 ghost use Rattle.frame.specs.CommandReading.{read_command_refusal, read_command, no_command};
 
-use bytes::values::read_values;
+use octets::values::read_values;
 use command::{command_in, is_command, put_command};
 use estimate::marks::is_writable;
 use estimate::parts::{estimate_length, put_estimate, read_state, readings_length, state_length};

@@ -1,6 +1,6 @@
 // The pairs of offset and length, and the readings' part, which is looked at while it is taken.
 ghost use Rattle.std.specs.Prelude.{◌≡◌, true, false, ◌≤◌, length};
-ghost use Rattle.bytes.specs.Areas.{put};
+ghost use Rattle.octets.specs.Areas.{put};
 ghost use Rattle.estimate.specs.Lengths.{readings_length};
 ghost use Rattle.estimate.specs.Reading.{readings_in, readings_ok};
 ghost use Rattle.frame.specs.Lengths.{pair_start, parts_start};
@@ -8,8 +8,8 @@ ghost use Rattle.frame.specs.Format.{pairs};
 ghost use Rattle.frame.specs.Reading.{pairs_ok};
 
 use crate::lengths::{HEADER_LENGTH, PAIR_LENGTH, PARTS_START};
-use bytes::values::VALUE_LENGTH;
-use bytes::word::{put_u16, signed, u16_at, u32_at};
+use octets::values::VALUE_LENGTH;
+use octets::word::{put_u16, signed, u16_at, u32_at};
 use estimate::marks::marks_below;
 use estimate::parts::{readings_length, state_length};
 use readings::{Readings, no_readings};

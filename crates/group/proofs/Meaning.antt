@@ -7,8 +7,8 @@ use lib.ListN.{length, take}
 use borrow.Author.Tests.{le-ltb}
 use Rattle.quorums.specs.declared.Quorums.{Quorums}
 use Rattle.law.specs.declared.Settings as Law
-use Rattle.bytes.specs.Areas.{over}
-use Rattle.bytes.proofs.Areas.{over_first}
+use Rattle.octets.specs.Areas.{over}
+use Rattle.octets.proofs.Areas.{over_first}
 use Rattle.replica.specs.Settings.{bad_group, settings_refusal}
 use Rattle.replica.specs.Calls.{made}
 use Rattle.replica.proofs.Accepted.{accepted, not-refused}

@@ -1,7 +1,7 @@
 -- What the history calls a result is what the call leaves in its caller's hands: the replica, the answer, and the bytes at the start of
 -- each lent area.
 use Rattle.std.specs.Prelude.{ℕ, ◌≡◌, List, length, take}
-use Rattle.bytes.specs.Areas.{over}
+use Rattle.octets.specs.Areas.{over}
 use Rattle.scram.specs.Answers.{answered}
 use Rattle.scram.specs.Held.{Input}
 use Rattle.scram.specs.History.{Result}

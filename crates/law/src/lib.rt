@@ -1,4 +1,6 @@
 // The controller's law in fixed point: its settings, the update of a state and the commands.
+#![tactic(auto)]
+
 mod commands;
 mod fixed;
 mod ranges;

@@ -2,7 +2,7 @@
 -- f, 0 where it sent none.
 use Rattle.std.specs.Prelude.{ℕ, ◌+◌, ◌*◌, Bool, ◌&&◌, List, length, get_or, take, drop, leb, ltb}
 use Rattle.lists.specs.Choice.{pick}
-use Rattle.bytes.specs.Areas.{put}
+use Rattle.octets.specs.Areas.{put}
 
 -- the bytes that a line has in the table: "the longest frame has 69"
 abbrev pub slot : ℕ

@@ -1,4 +1,6 @@
 // The first line of `rig`: the sizes of a group, its tables, limits, start and quorum numbers.
+#![tactic(auto)]
+
 mod ending;
 pub mod wrong;
 

@@ -1,5 +1,7 @@
 // The shift pages of what bench or rig printed: `rig < script | page`. What it prints of its standard input is `pages_output` of
 // printed/specs/Pages.antt, by the contract of `printed::output::pages`. How many lines were passed over is said on standard error.
+#![tactic(auto)]
+
 mod messages;
 
 use console::CHUNK;

@@ -15,7 +15,7 @@ use Rattle.lists.specs.Choice.{pick}
 use Rattle.lists.specs.Places.{entry, filled}
 use Rattle.lists.proofs.Choice.{pick_true, pick-false}
 use Rattle.lists.proofs.Places.{filled-same}
-use Rattle.bytes.specs.Words.{part}
+use Rattle.octets.specs.Words.{part}
 use Rattle.text.specs.Printing.{decimal, signed}
 use Rattle.text.specs.Numbers.{magnitude, size_in, number_of, value_in}
 use Rattle.text.proofs.PrintingLengths.{decimal-length, signed-length}

@@ -15,7 +15,7 @@ use Rattle.lists.proofs.Choice.{pick_true, pick-false}
 use Rattle.lists.proofs.Parts.{drop-beyond}
 use Rattle.lists.proofs.Places.{filled_none, filled-same, take-filled}
 use Rattle.lists.proofs.Refusals.{none-holds, first_holds, first-fails, passed}
-use Rattle.bytes.specs.Words.{part}
+use Rattle.octets.specs.Words.{part}
 use Rattle.pages.specs.declared.entries.Entry.{Entry}
 use Rattle.pages.specs.Entries.{commands_ok, blank}
 use Rattle.pages.specs.Line.{line_length}

@@ -17,8 +17,8 @@ use Rattle.lists.proofs.Choice.{pick_true, pick-false, pick-holds}
 use Rattle.lists.proofs.Places.{take-filled}
 use Rattle.pages.specs.declared.entries.Entry.{Entry}
 use Rattle.pages.specs.Entries.{entry_of, first_entries, Typed, AllTyped, none, one, shown}
-use Rattle.bytes.specs.Words.{from_twos_complement}
-use Rattle.bytes.proofs.TwosComplement.{as-to_z}
+use Rattle.octets.specs.Words.{from_twos_complement}
+use Rattle.octets.proofs.TwosComplement.{as-to_z}
 use Rattle.text.specs.Printing.{decimal}
 use Rattle.pages.specs.Line.{right, command_columns, hyphen, commands_shown, line_text, to_the_end, line_bytes, line_length}
 use Rattle.pages.specs.Page.{standing, placed, on_page, rises, page_bytes}

@@ -7,7 +7,7 @@ use native.Mathlib.Omega.{arith}
 use lib.Dec.{eqb}
 use lib.ListN.{length, drop, get_or}
 use lib.Seq.{drop-drop, get_or-drop}
-use Rattle.bytes.specs.Words.{from_twos_complement}
+use Rattle.octets.specs.Words.{from_twos_complement}
 use Rattle.pages.specs.declared.entries.Entry.{Entry}
 use Rattle.pages.specs.Entries.{entry_of, first_entries, entries_of}
 use Rattle.pages.specs.Page.{placed, on_page}

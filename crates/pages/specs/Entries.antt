@@ -3,7 +3,7 @@ use Rattle.std.specs.Prelude.{ℕ, zero, suc, ◌/◌, ◌<◌, ◌^◌, ◌≡�
 use Rattle.lists.specs.Choice.{pick}
 use Rattle.lists.specs.Places.{entry, filled}
 use Rattle.lists.specs.I32.{AllI32}
-use Rattle.bytes.specs.Words.{from_twos_complement}
+use Rattle.octets.specs.Words.{from_twos_complement}
 use Rattle.pages.specs.declared.entries.Entry.{Entry}
 
 -- p, the number of commands, is 1 to 4

@@ -3,7 +3,7 @@ use Rattle.std.specs.Prelude.{ℕ, zero, suc, ◌+◌, ◌*◌, ◌/◌, ◌≡�
 use Rattle.lists.specs.Choice.{pick}
 use Rattle.lists.specs.Places.{filled}
 use Rattle.lists.specs.Refusals.{refusal, first_of}
-use Rattle.bytes.specs.Words.{part}
+use Rattle.octets.specs.Words.{part}
 use Rattle.text.specs.Numbers.{magnitude, size_in, number_of, value_in}
 use Rattle.pages.specs.declared.entries.Entry.{Entry}
 use Rattle.pages.specs.declared.lines.Page.{Page}

@@ -2,7 +2,7 @@
 ghost use Rattle.std.specs.Prelude.{◌≡◌, ◌+◌, ◌≤◌, length, drop};
 ghost use Rattle.pages.specs.Entries.{commands_ok, entry_of, blank as Entries·blank};
 
-use bytes::word::signed;
+use octets::word::signed;
 
 // A period, the view in it, and its command where there is one: of the four values as many count as a page has commands.
 #[derive(Drop)]

@@ -1,6 +1,6 @@
 // Writing a page.
 ghost use Rattle.std.specs.Prelude.{◌≡◌, length};
-ghost use Rattle.bytes.specs.Areas.{over};
+ghost use Rattle.octets.specs.Areas.{over};
 ghost use Rattle.pages.specs.Answers.{number};
 ghost use Rattle.pages.specs.Entries.{entries_of};
 ghost use Rattle.pages.specs.Writing.{write_refusal, written};

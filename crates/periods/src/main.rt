@@ -1,6 +1,8 @@
 // Decided periods, played on replicas alone, so that the instructions of their steps can be counted (tools/figures). Each byte of standard input is a
 // period: `a` of three boxes with n, m and p 4, 2 and 1; `b` of nine boxes with 6, 4 and 4; `c` of three boxes, where the Propose is lost and the
 // next box takes over. The last command of each group is printed.
+#![tactic(auto)]
+
 mod boxes;
 mod normal;
 mod steps;

@@ -1,7 +1,7 @@
 -- What program `page` prints of the text on its standard input. Quoted is docs/PAGE.md.
 use Rattle.std.specs.Prelude.{ℕ, zero, suc, ◌≡◌, Bool, not, ◌&&◌, ◌||◌, List, [], ◌∷◌, ◌++◌, map, length, take, drop, eqb, ltb}
 use Rattle.lists.specs.Choice.{pick}
-use Rattle.bytes.specs.Areas.{over}
+use Rattle.octets.specs.Areas.{over}
 use Rattle.text.specs.Lines.{lines_of}
 use Rattle.pages.specs.declared.entries.Entry.{Entry}
 use Rattle.pages.specs.Page.{on_page, page_bytes, most_lines}

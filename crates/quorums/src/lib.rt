@@ -1,4 +1,6 @@
 // The two quorum numbers of a group, refusal 18, and the majority as both of them.
+#![tactic(auto)]
+
 ghost use Rattle.std.specs.Prelude.{◌≡◌, ◌<◌};
 ghost use Rattle.quorums.specs.Quorums.{outside, bad_quorums, majorities};
 

@@ -1,4 +1,6 @@
 // A row of readings, the shape that the law, the frames and the replica share.
+#![tactic(auto)]
+
 ghost use Rattle.std.specs.Prelude.{◌≡◌, ◌≤◌, pos};
 ghost use Rattle.lists.specs.Choice.{pick};
 ghost use Rattle.readings.specs.Readings.{normalised, no_readings, mark_beyond};

@@ -18,9 +18,9 @@ use Rattle.lists.specs.Places.{filled}
 use Rattle.lists.proofs.Choice.{pick_true, pick-false}
 use Rattle.lists.proofs.Places.{filled-length, blank-at}
 use Rattle.readings.specs.Readings.{mark_beyond}
-use Rattle.bytes.specs.Words.{AllBytes, part, number_at, value_at}
-use Rattle.bytes.proofs.Numbers.{bytes_drop, bytes-part, length_part, number_lt}
-use Rattle.bytes.proofs.TwosComplement.{as-to_z}
+use Rattle.octets.specs.Words.{AllBytes, part, number_at, value_at}
+use Rattle.octets.proofs.Numbers.{bytes_drop, bytes-part, length_part, number_lt}
+use Rattle.octets.proofs.TwosComplement.{as-to_z}
 use Rattle.law.proofs.Accepted.{Sizes}
 use Rattle.law.proofs.Laws.{sizes-accepted}
 use Rattle.estimate.specs.Fields.{TypedEstimate}

@@ -9,7 +9,7 @@ use Rattle.lists.specs.Choice.{pick}
 use Rattle.lists.specs.Places.{filled}
 use Rattle.lists.specs.Refusals.{first_of}
 use Rattle.readings.specs.Readings.{normalised}
-use Rattle.bytes.specs.Words.{little_endian, spelled, number_at, twos_complement, from_twos_complement, values_bytes, value_at}
+use Rattle.octets.specs.Words.{little_endian, spelled, number_at, twos_complement, from_twos_complement, values_bytes, value_at}
 use Rattle.law.specs.Settings.{sizes_in_range, in_range, table_in_range, coefficients_in_range, limits_in_order, refusals}
 use Rattle.estimate.specs.declared.Estimate.{Estimate}
 use Rattle.estimate.specs.Fields.{carried_estimate}

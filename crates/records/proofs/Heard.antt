@@ -11,10 +11,10 @@ use borrow.Author.Tests.{eqb-true, eqb-false}
 use Rattle.lists.specs.Choice.{pick}
 use Rattle.lists.specs.Places.{filled}
 use Rattle.lists.proofs.Places.{filled-same, filled-length, filled_at}
-use Rattle.bytes.specs.Words.{part}
-use Rattle.bytes.specs.Areas.{put}
-use Rattle.bytes.proofs.Numbers.{length_part}
-use Rattle.bytes.proofs.Areas.{put_one, then-put}
+use Rattle.octets.specs.Words.{part}
+use Rattle.octets.specs.Areas.{put}
+use Rattle.octets.proofs.Numbers.{length_part}
+use Rattle.octets.proofs.Areas.{put_one, then-put}
 use Rattle.estimate.specs.Marks.{bit}
 use Rattle.records.specs.HeldPart.{heard_bytes, mark_at}
 

@@ -15,8 +15,8 @@ use Rattle.lists.specs.Places.{filled}
 use Rattle.lists.proofs.Booleans.{both}
 use Rattle.lists.proofs.Below.{all_of, all-at}
 use Rattle.lists.proofs.Places.{blank-at}
-use Rattle.bytes.specs.Words.{AllBytes, little_endian, spelled, part, number_at, twos_complement, values_bytes}
-use Rattle.bytes.proofs.Numbers.{spelled-little_endian, number-back}
+use Rattle.octets.specs.Words.{AllBytes, little_endian, spelled, part, number_at, twos_complement, values_bytes}
+use Rattle.octets.proofs.Numbers.{spelled-little_endian, number-back}
 use Rattle.estimate.specs.declared.Estimate.{Estimate}
 use Rattle.estimate.specs.Fields.{TypedEstimate, carried_estimate}
 use Rattle.estimate.specs.Marks.{bit, marks_byte, marks_below}

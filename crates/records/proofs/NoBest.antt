@@ -12,8 +12,8 @@ use Rattle.lists.specs.Choice.{pick}
 use Rattle.lists.specs.Places.{filled}
 use Rattle.lists.proofs.Below.{all-at}
 use Rattle.lists.proofs.Places.{blank-at}
-use Rattle.bytes.specs.Words.{spelled, part, number_at, from_twos_complement, value_at}
-use Rattle.bytes.proofs.Numbers.{length_part}
+use Rattle.octets.specs.Words.{spelled, part, number_at, from_twos_complement, value_at}
+use Rattle.octets.proofs.Numbers.{length_part}
 use Rattle.estimate.specs.Marks.{marks_in}
 use Rattle.estimate.specs.Reading.{state_in, readings_in, estimate_at}
 use Rattle.records.specs.Lengths.{record_length}

@@ -7,9 +7,9 @@ use lib.ListN.{length, length-append}
 use lib.IntN.{pos}
 use Rattle.lists.proofs.Choice.{pick-ok}
 use Rattle.lists.proofs.Places.{filled-length}
-use Rattle.bytes.specs.Words.{little_endian}
-use Rattle.bytes.proofs.Numbers.{length-little_endian}
-use Rattle.bytes.proofs.ValueLists.{length-values_bytes}
+use Rattle.octets.specs.Words.{little_endian}
+use Rattle.octets.proofs.Numbers.{length-little_endian}
+use Rattle.octets.proofs.ValueLists.{length-values_bytes}
 use Rattle.readings.specs.Readings.{normalised}
 use Rattle.estimate.specs.declared.Estimate.{Estimate}
 use Rattle.estimate.specs.Fields.{TypedEstimate, carried_estimate}

@@ -9,9 +9,9 @@ use lib.IntN.{ℤ, pos}
 use Rattle.lists.specs.Places.{entry, filled}
 use Rattle.lists.specs.I32.{AllI32}
 use Rattle.lists.proofs.Places.{filled-same}
-use Rattle.bytes.specs.Words.{AllBytes, part, values_bytes, value_at}
-use Rattle.bytes.proofs.Numbers.{bytes-part, length_part, first-four}
-use Rattle.bytes.proofs.ValueLists.{length-values_bytes, value-forth, values-back}
+use Rattle.octets.specs.Words.{AllBytes, part, values_bytes, value_at}
+use Rattle.octets.proofs.Numbers.{bytes-part, length_part, first-four}
+use Rattle.octets.proofs.ValueLists.{length-values_bytes, value-forth, values-back}
 use Rattle.replica.specs.declared.Settings.{Settings}
 use Rattle.records.specs.Lengths.{settings_length, record_length}
 use Rattle.records.specs.SettingsPart.{letter, version, quorums_byte, quorums_in, head_bytes, tables_bytes, settings_bytes, values_at, law_in, settings_in}

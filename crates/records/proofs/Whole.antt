@@ -10,7 +10,7 @@ use Rattle.lists.specs.Places.{entry, filled}
 use Rattle.lists.proofs.Booleans.{both}
 use Rattle.lists.proofs.Choice.{pick-ok, pick-holds}
 use Rattle.lists.proofs.Places.{filled_at, filled-same, blank-at}
-use Rattle.bytes.specs.Words.{AllBytes}
+use Rattle.octets.specs.Words.{AllBytes}
 use Rattle.readings.specs.declared.Readings.{Readings}
 use Rattle.readings.specs.Readings.{normalised}
 use Rattle.readings.proofs.Normalised.{normalised-twice, normalised-none}

@@ -2,7 +2,7 @@
 -- and m are.
 use Rattle.std.specs.Prelude.{ℕ, ◌+◌, Bool, false, List, [], ◌∷◌, ◌++◌, map, get_or, eqb}
 use Rattle.lists.specs.Places.{filled}
-use Rattle.bytes.specs.Words.{little_endian, number_at}
+use Rattle.octets.specs.Words.{little_endian, number_at}
 use Rattle.estimate.specs.Marks.{bit}
 use Rattle.estimate.specs.Format.{estimate_bytes}
 use Rattle.estimate.specs.Reading.{estimate_at}

@@ -2,7 +2,7 @@
 -- use: making keeps them so.
 use Rattle.std.specs.Prelude.{ℕ, ◌+◌, ◌*◌, ◌/◌, ◌%◌, List, [], ◌∷◌, ◌++◌, get_or, ℤ, pos}
 use Rattle.lists.specs.Places.{filled}
-use Rattle.bytes.specs.Words.{part, value_length, values_bytes, value_at}
+use Rattle.octets.specs.Words.{part, value_length, values_bytes, value_at}
 use Rattle.law.specs.declared.Settings as Law
 use Rattle.quorums.specs.declared.Quorums.{Quorums}
 use Rattle.replica.specs.declared.Settings.{Settings}

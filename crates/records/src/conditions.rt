@@ -9,7 +9,7 @@ ghost use Rattle.records.specs.Reading.{layout_ok, states_ok, zero_at, is_box, b
 use crate::held_part::{best_at, estimate_at};
 use crate::lengths::RECORD;
 use crate::settings_part::{LETTER, VERSION};
-use bytes::word::u32_at;
+use octets::word::u32_at;
 use estimate::Estimate;
 use estimate::marks::{absent_zero, marks_below};
 use replica::Best;

@@ -1,13 +1,13 @@
 // The part of what is held.
 ghost use Rattle.std.specs.Prelude.{◌≡◌, [], ◌∷◌, ◌++◌, ◌+◌, ◌≤◌, length};
-ghost use Rattle.bytes.specs.Words.{little_endian};
-ghost use Rattle.bytes.specs.Areas.{put};
+ghost use Rattle.octets.specs.Words.{little_endian};
+ghost use Rattle.octets.specs.Areas.{put};
 ghost use Rattle.estimate.specs.Marks.{bit};
 ghost use Rattle.estimate.specs.Reading.{estimate_at};
 ghost use Rattle.records.specs.Lengths.{held_length};
 ghost use Rattle.records.specs.HeldPart.{heard_bytes, best_bytes, held_bytes, mark_at, heard_at, best_at, held_at};
 
-use bytes::word::{put_byte, put_u32, u32_at};
+use octets::word::{put_byte, put_u32, u32_at};
 use estimate::Estimate;
 use estimate::parts::{put_estimate, read_readings, read_state};
 use replica::{Best, Held};

@@ -1,4 +1,6 @@
 // The record of a replica (docs/RECORD.md): recording, reading, and returning after a power cycle.
+#![tactic(auto)]
+
 pub mod conditions;
 pub mod held_part;
 pub mod lengths;

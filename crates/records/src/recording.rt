@@ -1,6 +1,6 @@
 // Recording a replica.
 ghost use Rattle.std.specs.Prelude.{◌≡◌, ◌≤◌, length};
-ghost use Rattle.bytes.specs.Areas.{over};
+ghost use Rattle.octets.specs.Areas.{over};
 ghost use Rattle.scram.specs.Answers.{answered};
 ghost use Rattle.estimate.specs.Fields.{first_states, carried_estimate};
 ghost use Rattle.records.specs.Recording.{no_best, recorded_best, recorded_held, record_refusal, record_answer, recorded};

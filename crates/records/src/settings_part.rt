@@ -1,11 +1,11 @@
 // The settings' part of a record: eight bytes, and the tables whole.
 ghost use Rattle.std.specs.Prelude.{◌≡◌, ◌+◌, ◌≤◌, ◌<◌, length};
-ghost use Rattle.bytes.specs.Areas.{put};
+ghost use Rattle.octets.specs.Areas.{put};
 ghost use Rattle.records.specs.Lengths.{settings_length, record_length};
 ghost use Rattle.records.specs.SettingsPart.{quorums_byte, quorums_in, head_bytes, tables_bytes, settings_bytes, values_at, law_in, settings_in};
 
-use bytes::values::{put_values, read_values};
-use bytes::word::put_4;
+use octets::values::{put_values, read_values};
+use octets::word::put_4;
 use quorums::Quorums;
 use replica::Settings;
 

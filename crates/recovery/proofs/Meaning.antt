@@ -11,8 +11,8 @@ use lib.Dec.{lit≤, eqb}
 use borrow.Author.Tests.{eq-eqb, ne_eqb}
 use Rattle.lists.proofs.Choice.{pick-ok, pick_true}
 use Rattle.lists.proofs.Parts.{drop-beyond}
-use Rattle.bytes.specs.Areas.{over}
-use Rattle.bytes.proofs.Areas.{over_first}
+use Rattle.octets.specs.Areas.{over}
+use Rattle.octets.proofs.Areas.{over_first}
 use Rattle.scram.specs.Answers.{Answered, Done, Ignored, Refused}
 use Rattle.scram.specs.Held.{Input}
 use Rattle.scram.specs.Shown.{is_refused}

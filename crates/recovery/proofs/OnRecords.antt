@@ -14,7 +14,7 @@ use mir.Syntax.{w32}
 use mir.Val.{SFits}
 use Rattle.lists.specs.Choice.{pick}
 use Rattle.lists.proofs.Choice.{pick-ok, pick-holds, pick_true, pick-false}
-use Rattle.bytes.specs.Words.{from_twos_complement}
+use Rattle.octets.specs.Words.{from_twos_complement}
 use Rattle.readings.specs.declared.Readings.{Readings}
 use Rattle.readings.specs.Readings.{normalised, no_readings}
 use Rattle.readings.proofs.Normalised.{normalised-none}

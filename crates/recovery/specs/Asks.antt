@@ -11,7 +11,7 @@ use Rattle.replica.specs.Settings.{law_of}
 use Rattle.records.specs.Lengths.{record_length}
 use Rattle.records.specs.Recording.{recorded}
 use Rattle.records.specs.Reading.{is_done}
-use Rattle.bytes.specs.Areas.{over}
+use Rattle.octets.specs.Areas.{over}
 use Rattle.tickets.specs.Tickets.{is_spent}
 use Rattle.asks.specs.declared.Ticketed.{Ticketed}
 use Rattle.asks.specs.declared.Asked.{Asked}

@@ -1,7 +1,7 @@
 -- What the histories of the C firmware call a result is what its calls leave in the caller's areas, by the contracts of crate winder.
 use Rattle.std.specs.Prelude.{ℕ, ◌≤◌, ◌≡◌, Bool, not, ◌||◌, List, length, get_or, eqb}
 use Rattle.std.proofs.Math.Option.{some}
-use Rattle.bytes.specs.Areas.{over}
+use Rattle.octets.specs.Areas.{over}
 use Rattle.scram.specs.Held.{Input}
 use Rattle.scram.specs.History.{Result}
 use Rattle.quorums.specs.declared.Quorums.{Quorums}

@@ -13,7 +13,7 @@ use Rattle.scram.specs.declared.Answer.TheVariants.{Done}
 use Rattle.scram.specs.Held as Scram
 use Rattle.scram.specs.Events.{refusing, ignoring, doing}
 use Rattle.law.specs.declared.Settings as Law
-use Rattle.bytes.specs.Areas.{over}
+use Rattle.octets.specs.Areas.{over}
 use Rattle.replica.specs.declared.Settings.{Settings}
 use Rattle.replica.specs.declared.Held.{Held}
 use Rattle.replica.specs.declared.Member.{Member}

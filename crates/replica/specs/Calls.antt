@@ -8,7 +8,7 @@ use Rattle.scram.specs.Held.{Outcome, fresh}
 use Rattle.scram.specs.Events as Events
 use Rattle.scram.specs.Events.{refusing}
 use Rattle.law.specs.declared.Marked.{Marked}
-use Rattle.bytes.specs.Areas.{over}
+use Rattle.octets.specs.Areas.{over}
 use Rattle.frame.specs.Lengths.{longest_frame, longest_command}
 use Rattle.replica.specs.declared.Settings.{Settings}
 use Rattle.replica.specs.declared.Replica.{Replica}

@@ -1,4 +1,6 @@
 // One replica of a group, as a value that takes events: a tick with readings, a frame that arrives, a view that is given up.
+#![tactic(auto)]
+
 mod arrivals;
 mod checked;
 pub mod fit;

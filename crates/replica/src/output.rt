@@ -1,7 +1,7 @@
 // What a step writes to the areas that it is lent: a frame, and a command.
 ghost use Rattle.std.specs.Prelude.{◌≡◌, true, ◌≤◌, length};
 ghost use Rattle.law.specs.Settings.{settings_of, refusal};
-ghost use Rattle.bytes.specs.Areas.{over};
+ghost use Rattle.octets.specs.Areas.{over};
 ghost use Rattle.frame.specs.Sizes.{sizes_ok};
 ghost use Rattle.frame.specs.Kinds.{kind_ok};
 ghost use Rattle.frame.specs.Format.{frame_bytes};

@@ -1,6 +1,8 @@
 // The bench for any group: the first line of standard input describes it, and the lines after are played. What it prints of them is `rig_output` of
 // script/specs/Script.antt, by the contract of `script::output::rig`. The lines so far are played again whenever more come, and what is new is printed,
 // so that lines typed at a terminal are answered at once. What is wrong with the first line is said once, on standard error.
+#![tactic(auto)]
+
 mod errors;
 
 use console::CHUNK;

@@ -1,4 +1,6 @@
 // Writes a frame of each kind and two commands, and says what reading and writing answer on whole frames and on damaged ones.
+#![tactic(auto)]
+
 mod damage;
 mod print;
 mod samples;

@@ -1,4 +1,6 @@
 // The protocol's numbers and tests, as code: the definitions of the whole protocol, over any law, are in specs/.
+#![tactic(auto)]
+
 pub mod ignored;
 pub mod quorum;
 pub mod refusals;

@@ -3,7 +3,7 @@ use Rattle.std.specs.Prelude.{ℕ, ◌≡◌, true, false, List, length, replica
 use Rattle.transmitters.specs.declared.Reading.{Reading}
 use Rattle.transmitters.specs.Conversion.{converted_row}
 use Rattle.scram.specs.Answers.{Answered, answered}
-use Rattle.bytes.specs.Areas.{over}
+use Rattle.octets.specs.Areas.{over}
 use Rattle.frame.specs.Lengths.{longest_frame, longest_command}
 use Rattle.replica.specs.declared.Settings.{Settings}
 use Rattle.replica.specs.declared.Replica.{Replica}

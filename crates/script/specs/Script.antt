@@ -1,7 +1,7 @@
 -- A whole script: its lines, what they leave one after the other, and what `bench` and `rig` print of it.
 use Rattle.std.specs.Prelude.{ℕ, suc, ◌+◌, ◌*◌, min, ◌≡◌, Bool, true, false, List, [], ◌∷◌, ◌++◌, length, get_or, set, replicate, eqb}
 use Rattle.lists.specs.Choice.{pick}
-use Rattle.bytes.specs.Areas.{over}
+use Rattle.octets.specs.Areas.{over}
 use Rattle.text.specs.Lines.{first_line, after_line, lines_of}
 use Rattle.line.specs.declared.events.Called.{Called}
 use Rattle.line.specs.Events.{readings_of, called}

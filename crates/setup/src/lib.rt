@@ -1,4 +1,6 @@
 // The settings of document 01's bench, which program bench runs and the cases P1 to P5 are about.
+#![tactic(auto)]
+
 ghost use Rattle.std.specs.Prelude.{◌≡◌};
 ghost use Rattle.setup.specs.Bench.{bench};
 

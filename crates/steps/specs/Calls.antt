@@ -1,6 +1,6 @@
 -- What a step leaves in the areas of a caller.
 use Rattle.std.specs.Prelude.{ℕ, ◌≡◌, List, [], ◌∷◌, length}
-use Rattle.bytes.specs.Areas.{over}
+use Rattle.octets.specs.Areas.{over}
 use Rattle.scram.specs.Answers.{answered}
 use Rattle.replica.specs.declared.Settings.{Settings}
 use Rattle.replica.specs.declared.Replica.{Replica}

@@ -1,7 +1,7 @@
 -- A page that is read, line by line as words.
 use Rattle.std.specs.Prelude.{ℕ, ◌≡◌, List, [], ◌∷◌, length, get_or}
 use Rattle.lists.specs.Places.{entry}
-use Rattle.bytes.specs.Words.{twos_complement}
+use Rattle.octets.specs.Words.{twos_complement}
 use Rattle.estimate.specs.Marks.{bit}
 use Rattle.pages.specs.declared.entries.Entry.{Entry}
 use Rattle.pages.specs.Entries.{blank}

@@ -3,7 +3,7 @@ ghost use Rattle.std.specs.Prelude.{◌≡◌, get_or};
 ghost use Rattle.pages.specs.Entries.{blank as Entries·blank};
 ghost use Rattle.steps.specs.Pages.{words_of, ReadsPage};
 
-use bytes::word::bits;
+use octets::word::bits;
 use pages::entries::{Entry, blank};
 use pages::lines::{MOST, Page};
 use winder::areas::mark_byte;

@@ -16,7 +16,7 @@ use mir.Val.{Fits, SFits, to_z, of_z}
 use mir.ValLaws.{to_z_pos, to_z-of_z}
 use Rattle.lists.proofs.Booleans.{both}
 use Rattle.lists.specs.Choice.{pick}
-use Rattle.bytes.proofs.TwosComplement.{minus_pos, natural}
+use Rattle.octets.proofs.TwosComplement.{minus_pos, natural}
 use Rattle.text.specs.declared.numbers.Number.TheVariants.{Whole, Malformed}
 use Rattle.text.specs.declared.numbers.Magnitude.TheVariants.{Digits, Other}
 use Rattle.text.specs.Numbers.{is_digit, goes_on, spelled, negative, is_minus, counted}

@@ -20,7 +20,7 @@ use mir.ValLaws.{to_z_pos, to_z-of_z}
 use Rattle.lists.specs.Places.{entry}
 use Rattle.lists.proofs.Parts.{first-in-use}
 use Rattle.lists.proofs.Choice.{pick_true, pick-false}
-use Rattle.bytes.proofs.TwosComplement.{minus-negsuc, natural}
+use Rattle.octets.proofs.TwosComplement.{minus-negsuc, natural}
 use Rattle.text.specs.Printing.{with, Puts, digits_before, decimal, signed, after_commas, listed}
 
 -- ---- what is put, as far as there is room

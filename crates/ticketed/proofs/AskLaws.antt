@@ -12,9 +12,9 @@ use borrow.Author.Tests.{eqb-true}
 use Rattle.lists.specs.Choice.{pick}
 use Rattle.lists.proofs.Booleans.{never}
 use Rattle.lists.proofs.Choice.{pick_true, pick-false, pick_same}
-use Rattle.bytes.specs.Words.{AllBytes, little_endian, part}
-use Rattle.bytes.specs.Areas.{put, over}
-use Rattle.bytes.proofs.Numbers.{bytes-part, length_part, length-little_endian}
+use Rattle.octets.specs.Words.{AllBytes, little_endian, part}
+use Rattle.octets.specs.Areas.{put, over}
+use Rattle.octets.proofs.Numbers.{bytes-part, length_part, length-little_endian}
 use Rattle.estimate.specs.Marks.{bit}
 use Rattle.scram.specs.Answers.{Answered, Done, Ignored, Refused}
 use Rattle.scram.specs.Events.{refusing}

@@ -10,9 +10,9 @@ use lib.Dec.{eqb}
 use Rattle.lists.specs.Choice.{pick}
 use Rattle.lists.proofs.Choice.{pick_true, pick-false}
 use Rattle.lists.proofs.Refusals.{none-holds, first_holds, first-fails}
-use Rattle.bytes.specs.Words.{AllBytes, little_endian, part}
-use Rattle.bytes.specs.Areas.{put}
-use Rattle.bytes.proofs.Numbers.{length_part}
+use Rattle.octets.specs.Words.{AllBytes, little_endian, part}
+use Rattle.octets.specs.Areas.{put}
+use Rattle.octets.proofs.Numbers.{length_part}
 use Rattle.estimate.specs.Marks.{bit}
 use Rattle.scram.specs.Answers.{Done, Refused}
 use Rattle.tickets.specs.Tickets.{Tickets, voided, commits}

@@ -7,10 +7,10 @@ use native.Mathlib.Numerals.{add-one}
 use lib.ListN.{length, take, drop, get_or, set}
 use lib.Seq.{take-add, drop-drop, get_or-take, get_or-drop, paste, paste-suc, take_all}
 use Rattle.lists.proofs.Parts.{drop-beyond}
-use Rattle.bytes.specs.Words.{little_endian, spelled, part, number_at}
-use Rattle.bytes.specs.Areas.{put}
-use Rattle.bytes.proofs.Numbers.{length_part}
-use Rattle.bytes.proofs.Areas.{put_front, pasted}
+use Rattle.octets.specs.Words.{little_endian, spelled, part, number_at}
+use Rattle.octets.specs.Areas.{put}
+use Rattle.octets.proofs.Numbers.{length_part}
+use Rattle.octets.proofs.Areas.{put_front, pasted}
 
 -- ---- a number of eight bytes
 

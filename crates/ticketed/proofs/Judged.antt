@@ -11,10 +11,10 @@ use Rattle.lists.specs.Choice.{pick}
 use Rattle.lists.proofs.Booleans.{both}
 use Rattle.lists.proofs.Choice.{pick_true, pick-false}
 use Rattle.lists.proofs.Parts.{drop-beyond}
-use Rattle.bytes.specs.Words.{part}
-use Rattle.bytes.specs.Areas.{put}
-use Rattle.bytes.proofs.Numbers.{length_part}
-use Rattle.bytes.proofs.Areas.{then-put, put_front}
+use Rattle.octets.specs.Words.{part}
+use Rattle.octets.specs.Areas.{put}
+use Rattle.octets.proofs.Numbers.{length_part}
+use Rattle.octets.proofs.Areas.{then-put, put_front}
 use Rattle.replica.specs.Settings.{blank_settings}
 use Rattle.replica.specs.Calls.{fresh_of}
 use Rattle.records.specs.Lengths.{settings_length, held_length, record_length}

@@ -13,8 +13,8 @@ use Rattle.lists.proofs.Booleans.{both}
 use Rattle.lists.specs.Choice.{pick}
 use Rattle.lists.specs.Below.{all_below}
 use Rattle.lists.proofs.Choice.{pick_true, pick-false}
-use Rattle.bytes.specs.Words.{AllBytes}
-use Rattle.bytes.proofs.Numbers.{number_lt, length-little_endian}
+use Rattle.octets.specs.Words.{AllBytes}
+use Rattle.octets.proofs.Numbers.{number_lt, length-little_endian}
 use Rattle.estimate.specs.Marks.{bit}
 use Rattle.tickets.specs.Tickets.{Tickets, largest_ticket, is_spent, voided, commits}
 use Rattle.tickets.proofs.Laws.{ask-spent, ask-next, commit-made}

@@ -11,9 +11,9 @@ use borrow.Author.Tests.{ltb-false}
 use Rattle.lists.specs.Choice.{pick}
 use Rattle.lists.proofs.Choice.{pick_true, pick-false}
 use Rattle.lists.proofs.Refusals.{none-holds, first_holds, first-fails}
-use Rattle.bytes.specs.Words.{little_endian, part}
-use Rattle.bytes.specs.Areas.{put, over}
-use Rattle.bytes.proofs.Areas.{then-put, put_front}
+use Rattle.octets.specs.Words.{little_endian, part}
+use Rattle.octets.specs.Areas.{put, over}
+use Rattle.octets.proofs.Areas.{then-put, put_front}
 use Rattle.scram.specs.Answers.{Done, Refused}
 use Rattle.records.specs.Lengths.{record_length}
 use Rattle.records.specs.Reading.{is_record}

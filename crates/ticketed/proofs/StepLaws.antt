@@ -9,8 +9,8 @@ use lib.IntN.{ℤ}
 use borrow.Author.Tests.{le-ltb}
 use Rattle.lists.specs.Choice.{pick}
 use Rattle.lists.proofs.Choice.{pick_true, pick-false, pick_same}
-use Rattle.bytes.specs.Words.{AllBytes}
-use Rattle.bytes.specs.Areas.{put, over}
+use Rattle.octets.specs.Words.{AllBytes}
+use Rattle.octets.specs.Areas.{put, over}
 use Rattle.readings.specs.declared.Readings.{Readings}
 use Rattle.scram.specs.Answers.{Answered, answered}
 use Rattle.scram.specs.Events.{refusing}

@@ -12,9 +12,9 @@ use Rattle.lists.specs.Choice.{pick}
 use Rattle.lists.proofs.Booleans.{both}
 use Rattle.lists.proofs.Below.{all-at}
 use Rattle.lists.proofs.Parts.{drop-beyond}
-use Rattle.bytes.specs.Words.{AllBytes, little_endian, spelled, number_at, part}
-use Rattle.bytes.specs.Areas.{put}
-use Rattle.bytes.proofs.Numbers.{length-little_endian, spelled-little_endian, number-back}
+use Rattle.octets.specs.Words.{AllBytes, little_endian, spelled, number_at, part}
+use Rattle.octets.specs.Areas.{put}
+use Rattle.octets.proofs.Numbers.{length-little_endian, spelled-little_endian, number-back}
 use Rattle.estimate.specs.Marks.{bit}
 use Rattle.records.specs.Lengths.{held_length, record_length}
 use Rattle.records.specs.Reading.{zero_at}

@@ -2,8 +2,8 @@
 use Rattle.std.specs.Prelude.{ℕ, ◌≡◌, Bool, not, List, [], ◌∷◌, ◌++◌, length, drop, replicate, eqb, ltb}
 use Rattle.lists.specs.Choice.{pick}
 use Rattle.lists.specs.Refusals.{Refusal, refusal, first_of}
-use Rattle.bytes.specs.Words.{part}
-use Rattle.bytes.specs.Areas.{over}
+use Rattle.octets.specs.Words.{part}
+use Rattle.octets.specs.Areas.{over}
 use Rattle.scram.specs.Answers.{Answered, Done, Refused, answered}
 use Rattle.scram.specs.declared.Answer.TheVariants as Answer
 use Rattle.scram.specs.Events.{refusing}

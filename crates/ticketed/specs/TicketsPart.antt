@@ -1,7 +1,7 @@
 -- The tickets' part of a replica with tickets: its bytes, and the tickets in it. What the step of a ticket leaves is the part of its record that no ask and no
 -- step keeps: what is held.
 use Rattle.std.specs.Prelude.{ℕ, List, [], ◌∷◌, ◌++◌}
-use Rattle.bytes.specs.Words.{little_endian, number_at, part}
+use Rattle.octets.specs.Words.{little_endian, number_at, part}
 use Rattle.estimate.specs.Marks.{bit}
 use Rattle.records.specs.Lengths.{held_length}
 use Rattle.records.specs.HeldPart.{mark_at}

@@ -15,7 +15,7 @@ use crate::lengths::{LATEST, MARK, STEP};
 use crate::reading::read;
 use crate::words::{copy, put_u64, u64_at};
 use asks::{Ticketed, Tickets};
-use bytes::word::put_byte;
+use octets::word::put_byte;
 use records::lengths::{HELD, SETTINGS};
 use replica::Replica;
 use scram::Answer;

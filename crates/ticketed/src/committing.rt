@@ -1,6 +1,6 @@
 // Committing a ticket.
 ghost use Rattle.std.specs.Prelude.{◌≡◌, [], ◌∷◌, length};
-ghost use Rattle.bytes.specs.Areas.{put};
+ghost use Rattle.octets.specs.Areas.{put};
 ghost use Rattle.scram.specs.Answers.{answered};
 ghost use Rattle.tickets.specs.Tickets.{commits as Tickets·commits};
 ghost use Rattle.records.specs.Lengths.{settings_length};
@@ -11,7 +11,7 @@ ghost use Rattle.ticketed.specs.Calls.{answer_of, committing_refusal, committing
 use crate::lengths::{LATEST, MARK, STEP};
 use crate::reading::read;
 use crate::words::{copy, u64_at};
-use bytes::word::put_byte;
+use octets::word::put_byte;
 use records::lengths::{HELD, SETTINGS};
 use scram::Answer;
 

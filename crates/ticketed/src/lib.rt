@@ -1,4 +1,6 @@
 // A replica with tickets in the area of a caller (docs/RECORD.md): the record, and the tickets behind it. Asking, committing, and stepping without an ask.
+#![tactic(auto)]
+
 pub mod asking;
 pub mod committing;
 pub mod lengths;

@@ -1,6 +1,6 @@
 // Tickets for a replica that was made or returned.
 ghost use Rattle.std.specs.Prelude.{◌≡◌, ◌≤◌, length};
-ghost use Rattle.bytes.specs.Areas.{put, over};
+ghost use Rattle.octets.specs.Areas.{put, over};
 ghost use Rattle.scram.specs.Answers.{answered};
 ghost use Rattle.records.specs.Lengths.{record_length};
 ghost use Rattle.ticketed.specs.Lengths.{ticketed_length};

@@ -1,7 +1,7 @@
 // Steps without an ask: one that is made voids the latest ticket.
 ghost use Rattle.std.specs.Prelude.{◌≡◌, [], ◌∷◌, length};
 ghost use Rattle.lists.specs.Choice.{pick};
-ghost use Rattle.bytes.specs.Areas.{put, over};
+ghost use Rattle.octets.specs.Areas.{put, over};
 ghost use Rattle.transmitters.specs.Conversion.{converted_row};
 ghost use Rattle.transmitters.specs.Numbers.{readings_of};
 ghost use Rattle.scram.specs.Answers.{answered};
@@ -14,7 +14,7 @@ ghost use Rattle.ticketed.specs.Calls.{step_at, Steps, refused_step, stepped_as}
 use crate::Stepped;
 use crate::lengths::MARK;
 use crate::reading::read;
-use bytes::word::put_byte;
+use octets::word::put_byte;
 use records::reading::is_done;
 use records::recording::write;
 use scram::Answer;

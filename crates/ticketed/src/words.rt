@@ -1,9 +1,9 @@
 // Numbers of 64 bits, and bytes from one area to another.
 ghost use Rattle.std.specs.Prelude.{◌≡◌, ◌+◌, ◌*◌, ◌≤◌, length};
-ghost use Rattle.bytes.specs.Words.{little_endian, number_at, part};
-ghost use Rattle.bytes.specs.Areas.{put};
+ghost use Rattle.octets.specs.Words.{little_endian, number_at, part};
+ghost use Rattle.octets.specs.Areas.{put};
 
-use bytes::word::{put_u32, u32_at};
+use octets::word::{put_u32, u32_at};
 
 // What two halves of 32 bits spell, the lower one first.
 fn join(low: u32, high: u32) -> u64

@@ -3,7 +3,7 @@ use Rattle.std.specs.Prelude.{ℕ, List, [], ◌∷◌, get_or, eqb}
 use Rattle.std.specs.Float.{binary32}
 use Rattle.std.specs.Float.Ieee.{of_bits}
 use Rattle.lists.specs.Choice.{pick}
-use Rattle.bytes.specs.Words.{from_twos_complement}
+use Rattle.octets.specs.Words.{from_twos_complement}
 use Rattle.transmitters.specs.declared.Reading.{Reading}
 use Rattle.transmitters.specs.declared.Reading.TheVariants.{Count, Newtons, Missing}
 

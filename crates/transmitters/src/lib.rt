@@ -1,4 +1,6 @@
 // Readings as the transmitters send them, and the row of counts that the law reads of them.
+#![tactic(auto)]
+
 pub mod numbers;
 pub mod single;
 

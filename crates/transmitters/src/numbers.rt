@@ -28,7 +28,7 @@ pub fn reading_of(kind: u8, bits: u32) -> Reading
     ensures { result ≡ reading_of kind bits }
 {
     if kind == 1 {
-        return Reading::Count(bytes::word::signed(bits));
+        return Reading::Count(octets::word::signed(bits));
     }
     if kind == 2 {
         return Reading::Newtons(single_of(bits));

@@ -1,4 +1,6 @@
 // Document 01's cases that are run and not proved: coefficients, group sizes, own numbers and a Propose at the ends of what is taken.
+#![tactic(auto)]
+
 mod answers;
 mod print;
 mod samples;

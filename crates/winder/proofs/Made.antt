@@ -7,7 +7,7 @@ use lib.ListN.{length}
 use lib.Dec.{eqb}
 use borrow.Author.Tests.{eqb-true, eqb-false}
 use Rattle.lists.proofs.Booleans.{never}
-use Rattle.bytes.specs.Areas.{over}
+use Rattle.octets.specs.Areas.{over}
 use Rattle.scram.specs.Answers.{Refused}
 use Rattle.replica.specs.declared.Settings.{Settings}
 use Rattle.replica.specs.Settings.{settings_refusal}

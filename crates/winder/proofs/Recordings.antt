@@ -6,7 +6,7 @@ use Prim.Native.Nat.{ℕ, zero, suc}
 use lib.Dec.{eqb, ltb}
 use Rattle.lists.proofs.Choice.{pick_true, pick-false}
 use Rattle.lists.proofs.Refusals.{none-holds, first_holds, first-fails}
-use Rattle.bytes.specs.Words.{AllBytes}
+use Rattle.octets.specs.Words.{AllBytes}
 use Rattle.replica.specs.declared.Replica.{Replica}
 use Rattle.replica.specs.Settings.{settings_refusal}
 use Rattle.records.specs.Lengths.{record_length}

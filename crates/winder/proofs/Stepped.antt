@@ -12,8 +12,8 @@ use Rattle.lists.specs.Choice.{pick}
 use Rattle.lists.proofs.Booleans.{both, never}
 use Rattle.lists.proofs.Parts.{drop-beyond}
 use Rattle.lists.proofs.Choice.{pick_true, pick-false}
-use Rattle.bytes.specs.Words.{AllBytes}
-use Rattle.bytes.specs.Areas.{put}
+use Rattle.octets.specs.Words.{AllBytes}
+use Rattle.octets.specs.Areas.{put}
 use Rattle.readings.specs.declared.Readings.{Readings}
 use Rattle.readings.specs.Readings.{normalised, mark_beyond}
 use Rattle.law.specs.declared.Settings as Law

@@ -1,7 +1,7 @@
 -- "The firmware needs the new record first, so C gets both calls": what an ask, a commit or a step leaves in the areas of a caller, where a replica lies with
 -- its tickets in one area. The definitions are crate ticketed's.
 use Rattle.std.specs.Prelude.{ℕ, ◌≡◌, List, [], ◌∷◌, length}
-use Rattle.bytes.specs.Areas.{over}
+use Rattle.octets.specs.Areas.{over}
 use Rattle.replica.specs.Calls.{Outcomes}
 use Rattle.asks.specs.Asking.{asked_record}
 use Rattle.ticketed.specs.Reading.{ticketed_in}

@@ -1,6 +1,6 @@
 // Reading and writing a frame.
 ghost use Rattle.std.specs.Prelude.{◌≡◌};
-ghost use Rattle.bytes.specs.Areas.{over};
+ghost use Rattle.octets.specs.Areas.{over};
 ghost use Rattle.frame.specs.Reading.{read_refusal, read_frame};
 ghost use Rattle.frame.specs.Writing.{write_refusal, written};
 ghost use Rattle.winder.specs.Areas.{unless_refused};

@@ -1,4 +1,6 @@
 // The law, the frames, the conversion of readings, the shift page and the replica for C programs. include/winder.h declares the functions.
+#![tactic(auto)]
+
 pub mod answers;
 pub mod areas;
 pub mod command_calls;

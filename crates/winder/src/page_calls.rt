@@ -1,6 +1,6 @@
 // Writing a shift page.
 ghost use Rattle.std.specs.Prelude.{◌≡◌};
-ghost use Rattle.bytes.specs.Areas.{over};
+ghost use Rattle.octets.specs.Areas.{over};
 ghost use Rattle.pages.specs.Entries.{entries_of};
 ghost use Rattle.pages.specs.Writing.{write_refusal, written};
 ghost use Rattle.winder.specs.PageAreas.{length_after};

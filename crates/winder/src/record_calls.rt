@@ -1,6 +1,6 @@
 // Recording a replica, and returning from its record. A replica is its record.
 ghost use Rattle.std.specs.Prelude.{◌≡◌, ◌≤◌, length};
-ghost use Rattle.bytes.specs.Areas.{over};
+ghost use Rattle.octets.specs.Areas.{over};
 ghost use Rattle.records.specs.Lengths.{record_length};
 ghost use Rattle.winder.specs.ReplicaAreas.{recording_refusal, recording, returning_refusal, returning};
 

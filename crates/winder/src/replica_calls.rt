@@ -1,7 +1,7 @@
 // Making a replica, and its three steps. A replica is its record.
 ghost use Rattle.std.specs.Prelude.{◌≡◌, [], ◌∷◌, ◌++◌, length, take};
 ghost use Rattle.lists.specs.Choice.{pick};
-ghost use Rattle.bytes.specs.Areas.{over};
+ghost use Rattle.octets.specs.Areas.{over};
 ghost use Rattle.scram.specs.Answers.{answered};
 ghost use Rattle.transmitters.specs.Conversion.{converted_row};
 ghost use Rattle.transmitters.specs.Numbers.{readings_of};

@@ -1,6 +1,6 @@
 // Asking first, for C: a replica with its tickets is an area. The work is crate ticketed's; here its answers become numbers.
 ghost use Rattle.std.specs.Prelude.{◌≡◌, [], ◌∷◌, length};
-ghost use Rattle.bytes.specs.Areas.{over};
+ghost use Rattle.octets.specs.Areas.{over};
 ghost use Rattle.scram.specs.Answers.{answered};
 ghost use Rattle.transmitters.specs.Conversion.{converted_row};
 ghost use Rattle.transmitters.specs.Numbers.{readings_of};

@@ -6,8 +6,8 @@ use native.Mathlib.Omega.{arith}
 use borrow.Author.Rules.{rules}
 use borrow.Author.Tests.{not-true, not-false}
 use lib.ListN.{length}
-use Rattle.bytes.specs.Areas.{put}
-use Rattle.bytes.proofs.Areas.{then-put}
+use Rattle.octets.specs.Areas.{put}
+use Rattle.octets.proofs.Areas.{then-put}
 use Rattle.estimate.specs.Format.{estimate_bytes}
 use Rattle.estimate.proofs.Lengths.{length-estimate}
 use Rattle.frame.specs.Lengths.{header_length, parts_start}

@@ -6,9 +6,9 @@ use native.Mathlib.Omega.{arith}
 use borrow.Author.Rules.{rules}
 use borrow.Author.Tests.{not-true, not-false}
 use lib.ListN.{length}
-use Rattle.bytes.specs.Words.{part}
-use Rattle.bytes.proofs.Numbers.{length_part}
-use Rattle.bytes.proofs.Areas.{part_of}
+use Rattle.octets.specs.Words.{part}
+use Rattle.octets.proofs.Numbers.{length_part}
+use Rattle.octets.proofs.Areas.{part_of}
 use Rattle.estimate.specs.Lengths.{state_length, readings_length, estimate_length}
 use Rattle.estimate.specs.Reading.{state_in, readings_in, readings_ok, state_part, readings_part, estimate_at, estimate_ok}
 use Rattle.frame.specs.Answers.{number}

@@ -5,7 +5,7 @@ use borrow.Author.Rules.{rules}
 use borrow.Author.Tests.{not-true, not-false}
 use Rattle.frame.specs.Answers.{number}
 use Rattle.frame.specs.Sizes.{sizes_ok}
-use Rattle.bytes.proofs.Areas.{put_front}
+use Rattle.octets.proofs.Areas.{put_front}
 use Rattle.frame.proofs.Conditions.{sizes}
 use Rattle.frame.proofs.Refusals.{write-sizes, write-area, write-malformed, write_done, nothing_written, frame-written}
 use Rattle.frame.proofs.write.Statement.{statement}

@@ -4,7 +4,7 @@ use mathlib.Core.Bool.{true}
 use borrow.Author.Tests.{le-leb, lt-leb}
 use Rattle.frame.specs.Answers.{number}
 use Rattle.frame.specs.Sizes.{commands_ok}
-use Rattle.bytes.proofs.Areas.{put_front}
+use Rattle.octets.proofs.Areas.{put_front}
 use Rattle.frame.proofs.Refusals.{command-sizes, command-area, command-done, no-command, command-written}
 use borrow.Author.Rules.{rules}
 use Rattle.frame.proofs.write_command.Statement.{statement}

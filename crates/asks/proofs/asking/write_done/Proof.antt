@@ -4,7 +4,7 @@ use mathlib.Core.List.{[]}
 use borrow.Author.Rules.{rules}
 use lib.ListN.{length}
 use Rattle.lists.proofs.Choice.{pick_true, pick-false}
-use Rattle.bytes.specs.Areas.{over}
+use Rattle.octets.specs.Areas.{over}
 use Rattle.records.specs.Recording.{recorded}
 use Rattle.asks.proofs.asking.write_done.Statement.{statement}
 use Rattle.asks.proofs.asking.write_done.Tie as tie

@@ -5,10 +5,10 @@ use Prim.Native.Nat.{ℕ, ◌+◌}
 use native.Mathlib.Omega.{arith}
 use native.Mathlib.Nat.{sub-zero}
 use lib.ListN.{length, take, length-append}
-use Rattle.bytes.specs.Words.{values_bytes}
-use Rattle.bytes.specs.Areas.{put}
-use Rattle.bytes.proofs.Areas.{then-put}
-use Rattle.bytes.proofs.ValueLists.{length-first}
+use Rattle.octets.specs.Words.{values_bytes}
+use Rattle.octets.specs.Areas.{put}
+use Rattle.octets.proofs.Areas.{then-put}
+use Rattle.octets.proofs.ValueLists.{length-first}
 use Rattle.estimate.specs.Marks.{marks_byte}
 use Rattle.estimate.specs.Format.{state_bytes, readings_bytes, estimate_bytes}
 use borrow.Author.Rules.{rules}

@@ -3,7 +3,7 @@ use mathlib.Core.Path.{◌≡◌, refl}
 use native.Mathlib.Omega.{arith}
 use lib.ListN.{take, drop, replicate, length-replicate, length-drop}
 use lib.IntN.{pos}
-use Rattle.bytes.specs.Words.{value_at}
+use Rattle.octets.specs.Words.{value_at}
 use Rattle.estimate.specs.Reading.{readings_in}
 use Rattle.lists.proofs.Parts.{to_the_end}
 use Rattle.lists.proofs.Places.{take-blanks, drop-blanks, filled-pad}

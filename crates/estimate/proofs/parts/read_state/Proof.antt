@@ -3,7 +3,7 @@ use mathlib.Core.Path.{◌≡◌, refl}
 use native.Mathlib.Omega.{arith}
 use lib.ListN.{take, replicate, length-replicate}
 use lib.IntN.{pos}
-use Rattle.bytes.specs.Words.{value_at}
+use Rattle.octets.specs.Words.{value_at}
 use Rattle.estimate.specs.Reading.{state_in}
 use Rattle.lists.proofs.Places.{take-blanks, drop-blanks, filled-pad}
 use borrow.Author.Rules.{rules}

@@ -5,7 +5,7 @@ use lib.ListN.{take, drop, replicate, length-replicate, length-drop}
 use lib.IntN.{pos}
 use Rattle.lists.proofs.Places.{take-blanks, drop-blanks, filled-pad}
 use Rattle.lists.proofs.Parts.{to_the_end}
-use Rattle.bytes.specs.Words.{value_at}
+use Rattle.octets.specs.Words.{value_at}
 use Rattle.frame.specs.Lengths.{command_start}
 use Rattle.frame.specs.Command.{command_period}
 use Rattle.frame.specs.CommandReading.{command_in}

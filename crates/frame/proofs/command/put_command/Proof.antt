@@ -5,14 +5,14 @@ use Prim.Native.Nat.{ℕ}
 use native.Mathlib.Omega.{arith}
 use native.Mathlib.Nat.{sub-zero}
 use lib.ListN.{length, take, length-append}
-use Rattle.bytes.specs.Words.{little_endian, values_bytes}
-use Rattle.bytes.specs.Areas.{put}
+use Rattle.octets.specs.Words.{little_endian, values_bytes}
+use Rattle.octets.specs.Areas.{put}
 use Rattle.estimate.specs.Marks.{bit}
 use Rattle.frame.specs.Lengths.{command_start}
 use Rattle.frame.specs.Command.{command_bytes}
-use Rattle.bytes.proofs.Numbers.{length-little_endian}
-use Rattle.bytes.proofs.Areas.{then-put}
-use Rattle.bytes.proofs.ValueLists.{length-first}
+use Rattle.octets.proofs.Numbers.{length-little_endian}
+use Rattle.octets.proofs.Areas.{then-put}
+use Rattle.octets.proofs.ValueLists.{length-first}
 use borrow.Author.Rules.{rules}
 use Rattle.frame.proofs.command.put_command.Statement.{statement}
 use Rattle.frame.proofs.command.put_command.Tie as tie

@@ -1,10 +1,10 @@
 -- `frame::header::put_header` meets its contract: the four bytes and the four numbers are put one after the other. Assumes nothing.
-use Rattle.bytes.specs.Areas.{put}
+use Rattle.octets.specs.Areas.{put}
 use Prim.Native.Nat.{ℕ}
 use mathlib.Core.List.{[], ◌∷◌}
-use Rattle.bytes.proofs.Areas.{then-put}
+use Rattle.octets.proofs.Areas.{then-put}
 use Rattle.frame.specs.Format.{header}
-use Rattle.bytes.specs.Words.{little_endian}
+use Rattle.octets.specs.Words.{little_endian}
 use mathlib.Core.Path.{refl, ◌∙◌, ap}
 use native.Mathlib.Omega.{arith}
 use borrow.Author.Rules.{rules}

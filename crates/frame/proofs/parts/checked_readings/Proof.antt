@@ -17,7 +17,7 @@ use Rattle.lists.specs.Places.{filled}
 use Rattle.lists.specs.Below.{all_below}
 use Rattle.lists.proofs.Places.{filled_none, filled_more}
 use Rattle.lists.proofs.Below.{all_none, all_more}
-use Rattle.bytes.specs.Words.{from_twos_complement, value_at}
+use Rattle.octets.specs.Words.{from_twos_complement, value_at}
 use Rattle.estimate.specs.Marks.{marks_in, is_zero}
 use Rattle.estimate.specs.Reading.{marks_at}
 use Rattle.estimate.proofs.PresentMarks.{bits-zero}

@@ -3,8 +3,8 @@ use mathlib.Core.Path.{refl, ◌∙◌}
 use Prim.Native.Nat.{◌+◌}
 use native.Mathlib.Omega.{arith}
 use borrow.Author.Rules.{rules}
-use Rattle.bytes.specs.Words.{little_endian}
-use Rattle.bytes.proofs.Areas.{then-put}
+use Rattle.octets.specs.Words.{little_endian}
+use Rattle.octets.proofs.Areas.{then-put}
 use Rattle.frame.specs.Lengths.{pair_start, parts_start}
 use Rattle.frame.specs.Format.{pairs}
 use Rattle.frame.proofs.parts.put_pairs.Statement.{statement}

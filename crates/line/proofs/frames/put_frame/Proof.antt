@@ -8,7 +8,7 @@ use lib.Seq.{paste, paste-zero, paste-suc}
 use borrow.Author.Rules.{rules}
 use native.Mathlib.Omega.{arith}
 use Rattle.line.specs.Frames.{kept_frame}
-use Rattle.bytes.proofs.Areas.{pasted}
+use Rattle.octets.proofs.Areas.{pasted}
 use Rattle.line.proofs.frames.put_frame.Statement.{statement}
 use Rattle.line.proofs.frames.put_frame.Tie as tie
 

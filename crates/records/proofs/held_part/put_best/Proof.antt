@@ -5,9 +5,9 @@ use Prim.Native.Nat.{ℕ, ◌+◌}
 use native.Mathlib.Omega.{arith}
 use lib.ListN.{length}
 use borrow.Author.Rules.{rules}
-use Rattle.bytes.specs.Words.{little_endian}
-use Rattle.bytes.specs.Areas.{put}
-use Rattle.bytes.proofs.Areas.{then-put}
+use Rattle.octets.specs.Words.{little_endian}
+use Rattle.octets.specs.Areas.{put}
+use Rattle.octets.proofs.Areas.{then-put}
 use Rattle.estimate.proofs.Lengths.{length-estimate}
 use Rattle.records.specs.HeldPart.{best_bytes}
 use Rattle.records.proofs.held_part.put_best.Statement.{statement}

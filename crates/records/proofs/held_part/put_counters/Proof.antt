@@ -2,8 +2,8 @@
 use mathlib.Core.Path.{refl}
 use Prim.Native.Nat.{◌+◌}
 use native.Mathlib.Omega.{arith}
-use Rattle.bytes.specs.Words.{little_endian}
-use Rattle.bytes.proofs.Areas.{then-put}
+use Rattle.octets.specs.Words.{little_endian}
+use Rattle.octets.proofs.Areas.{then-put}
 use borrow.Author.Rules.{rules}
 use Rattle.records.proofs.held_part.put_counters.Statement.{statement}
 use Rattle.records.proofs.held_part.put_counters.Tie as tie

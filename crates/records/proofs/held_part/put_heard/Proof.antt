@@ -6,8 +6,8 @@ use native.Mathlib.Omega.{arith}
 use lib.ListN.{length, take, length-set}
 use lib.Seq.{take_all}
 use borrow.Author.Rules.{rules}
-use Rattle.bytes.specs.Areas.{put}
-use Rattle.bytes.proofs.Areas.{put-nothing}
+use Rattle.octets.specs.Areas.{put}
+use Rattle.octets.proofs.Areas.{put-nothing}
 use Rattle.records.specs.HeldPart.{heard_bytes}
 use Rattle.records.proofs.Heard.{heard-more}
 use Rattle.records.proofs.held_part.put_heard.Statement.{statement}

@@ -4,8 +4,8 @@ use mathlib.Core.Path.{◌≡◌, refl}
 use Prim.Native.Nat.{◌+◌}
 use native.Mathlib.Omega.{arith}
 use lib.ListN.{length, length-append}
-use Rattle.bytes.specs.Words.{little_endian}
-use Rattle.bytes.proofs.Areas.{then-put}
+use Rattle.octets.specs.Words.{little_endian}
+use Rattle.octets.proofs.Areas.{then-put}
 use Rattle.records.specs.HeldPart.{held_bytes}
 use Rattle.records.proofs.Heard.{length-heard}
 use Rattle.records.proofs.PartLengths.{length_front, length-own, length-best}

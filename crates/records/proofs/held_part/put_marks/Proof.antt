@@ -3,8 +3,8 @@ use mathlib.Core.Path.{refl, ap, ◌∙◌}
 use mathlib.Core.List.{[], ◌∷◌}
 use Prim.Native.Nat.{ℕ, ◌+◌}
 use native.Mathlib.Omega.{arith}
-use Rattle.bytes.specs.Areas.{put}
-use Rattle.bytes.proofs.Areas.{then-put}
+use Rattle.octets.specs.Areas.{put}
+use Rattle.octets.proofs.Areas.{then-put}
 use borrow.Author.Rules.{rules}
 use Rattle.records.proofs.held_part.put_marks.Statement.{statement}
 use Rattle.records.proofs.held_part.put_marks.Tie as tie

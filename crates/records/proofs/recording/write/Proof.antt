@@ -7,8 +7,8 @@ use lib.ListN.{length}
 use mir.Val.{Val}
 use denote.Shadow.{shadow}
 use borrow.Author.Rules.{rules}
-use Rattle.bytes.specs.Areas.{put, over}
-use Rattle.bytes.proofs.Areas.{then-put, put_front}
+use Rattle.octets.specs.Areas.{put, over}
+use Rattle.octets.proofs.Areas.{then-put, put_front}
 use Rattle.scram.specs.Answers.{Refused}
 use Rattle.law.specs.declared.Settings as Law
 use Rattle.law.specs.contracts.Settings.{the_type, the_field}

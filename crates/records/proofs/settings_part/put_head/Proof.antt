@@ -2,7 +2,7 @@
 use mathlib.Core.Path.{refl}
 use mathlib.Core.List.{[], ◌∷◌}
 use borrow.Author.Rules.{rules}
-use Rattle.bytes.proofs.Areas.{then-put}
+use Rattle.octets.proofs.Areas.{then-put}
 use Rattle.records.specs.SettingsPart.{letter, version, quorums_byte, head_bytes}
 use Rattle.records.proofs.settings_part.put_head.Statement.{statement}
 use Rattle.records.proofs.settings_part.put_head.Tie as tie

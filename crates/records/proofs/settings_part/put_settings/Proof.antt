@@ -3,7 +3,7 @@ use mathlib.Core.Path.{◌≡◌}
 use native.Mathlib.Omega.{arith}
 use borrow.Author.Rules.{rules}
 use lib.ListN.{length}
-use Rattle.bytes.proofs.Areas.{then-put}
+use Rattle.octets.proofs.Areas.{then-put}
 use Rattle.records.specs.SettingsPart.{head_bytes, tables_bytes, settings_bytes}
 use Rattle.records.proofs.PartLengths.{length-head, length-tables}
 use Rattle.records.proofs.settings_part.put_settings.Statement.{statement}

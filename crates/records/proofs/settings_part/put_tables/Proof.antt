@@ -6,10 +6,10 @@ use native.Mathlib.Omega.{arith}
 use borrow.Author.Rules.{rules}
 use lib.ListN.{length, length-append}
 use lib.IntN.{ℤ}
-use Rattle.bytes.specs.Words.{values_bytes}
-use Rattle.bytes.specs.Areas.{put}
-use Rattle.bytes.proofs.Areas.{put-nothing, then-put}
-use Rattle.bytes.proofs.ValueLists.{length-values_bytes}
+use Rattle.octets.specs.Words.{values_bytes}
+use Rattle.octets.specs.Areas.{put}
+use Rattle.octets.proofs.Areas.{put-nothing, then-put}
+use Rattle.octets.proofs.ValueLists.{length-values_bytes}
 use Rattle.records.specs.SettingsPart.{tables_bytes}
 use Rattle.records.proofs.settings_part.put_tables.Statement.{statement}
 use Rattle.records.proofs.settings_part.put_tables.Tie as tie

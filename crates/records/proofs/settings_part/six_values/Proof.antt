@@ -5,8 +5,8 @@ use Prim.Native.Nat.{ℕ}
 use lib.IntN.{pos}
 use borrow.Author.Rules.{rules}
 use Rattle.lists.specs.Places.{filled}
-use Rattle.bytes.specs.Words.{value_at}
-use Rattle.bytes.proofs.Areas.{part_of}
+use Rattle.octets.specs.Words.{value_at}
+use Rattle.octets.proofs.Areas.{part_of}
 use Rattle.records.specs.SettingsPart.{values_at}
 use Rattle.records.proofs.settings_part.six_values.Statement.{statement}
 use Rattle.records.proofs.settings_part.six_values.Tie as tie

@@ -4,7 +4,7 @@ use mathlib.Core.List.{List}
 use Prim.Native.Nat.{ℕ}
 use lib.ListN.{length}
 use Rattle.lists.specs.Choice.{pick}
-use Rattle.bytes.specs.Areas.{over}
+use Rattle.octets.specs.Areas.{over}
 use Rattle.estimate.specs.declared.Estimate.{Estimate}
 use Rattle.frame.specs.Kinds as Kinds
 use Rattle.frame.specs.Format.{frame_bytes}

@@ -4,7 +4,7 @@ use mathlib.Core.List.{List}
 use Prim.Native.Nat.{ℕ}
 use lib.ListN.{length}
 use Rattle.readings.specs.declared.Readings.{Readings}
-use Rattle.bytes.specs.Areas.{over}
+use Rattle.octets.specs.Areas.{over}
 use Rattle.frame.specs.declared.Frame.{Frame}
 use Rattle.frame.specs.Writing.{written}
 use Rattle.replica.proofs.Written.{frame_is}

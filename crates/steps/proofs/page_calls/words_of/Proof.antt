@@ -4,7 +4,7 @@ use mathlib.Core.List.{[], ◌∷◌}
 use mir.Syntax.{w32}
 use mir.ValLaws.{to_z-of_z}
 use Rattle.lists.specs.Places.{entry}
-use Rattle.bytes.specs.Words.{twos_complement}
+use Rattle.octets.specs.Words.{twos_complement}
 use Rattle.steps.specs.Pages.{words_of}
 use borrow.Author.Rules.{rules}
 use Rattle.steps.proofs.page_calls.words_of.Statement.{statement}

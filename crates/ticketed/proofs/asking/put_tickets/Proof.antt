@@ -4,7 +4,7 @@ use mathlib.Core.List.{[], ◌∷◌}
 use Prim.Native.Nat.{ℕ}
 use native.Mathlib.Omega.{arith}
 use borrow.Author.Rules.{rules}
-use Rattle.bytes.specs.Areas.{put}
+use Rattle.octets.specs.Areas.{put}
 use Rattle.estimate.specs.Marks.{bit}
 use Rattle.ticketed.proofs.AskLaws.{noted-shut, noted-open}
 use Rattle.ticketed.proofs.asking.put_tickets.Statement.{statement}

@@ -4,7 +4,7 @@ use mathlib.Core.Bool.{true}
 use lib.ListN.{length}
 use borrow.Author.Rules.{rules}
 use borrow.Author.Tests.{not-true, not-false}
-use Rattle.bytes.specs.Words.{AllBytes}
+use Rattle.octets.specs.Words.{AllBytes}
 use Rattle.ticketed.specs.Lengths.{ticketed_length}
 use Rattle.ticketed.specs.Reading.{is_ticketed}
 use Rattle.ticketed.proofs.Judged.{judged}

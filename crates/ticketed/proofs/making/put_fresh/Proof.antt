@@ -1,7 +1,7 @@
 -- `ticketed::making::put_fresh` meets its contract. Assumes nothing.
 use mathlib.Core.Path.{ap, ◌∙◌}
 use borrow.Author.Rules.{rules}
-use Rattle.bytes.specs.Areas.{put}
+use Rattle.octets.specs.Areas.{put}
 use Rattle.records.specs.Lengths.{record_length}
 use Rattle.ticketed.proofs.MakeLaws.{fresh-part}
 use Rattle.ticketed.proofs.making.put_fresh.Statement.{statement}

@@ -4,7 +4,7 @@ use mathlib.Core.List.{List, [], ◌∷◌}
 use Prim.Native.Nat.{ℕ}
 use borrow.Author.Rules.{rules}
 use Rattle.lists.proofs.Choice.{pick_true, pick-false}
-use Rattle.bytes.specs.Areas.{put}
+use Rattle.octets.specs.Areas.{put}
 use Rattle.ticketed.proofs.stepping.leave.Statement.{statement}
 use Rattle.ticketed.proofs.stepping.leave.Tie as tie
 

@@ -5,7 +5,7 @@ use native.Mathlib.Omega.{arith}
 use lib.ListN.{length, length-set}
 use lib.Seq.{paste, paste-zero}
 use borrow.Author.Rules.{rules}
-use Rattle.bytes.specs.Words.{part}
+use Rattle.octets.specs.Words.{part}
 use Rattle.ticketed.proofs.Halves.{one_more, all-copied}
 use Rattle.ticketed.proofs.words.copy.Statement.{statement}
 use Rattle.ticketed.proofs.words.copy.Tie as tie

@@ -3,10 +3,10 @@ use mathlib.Core.Path.{ap, ◌∙◌}
 use Prim.Native.Nat.{◌/◌, ◌%◌}
 use native.Mathlib.Omega.{arith}
 use borrow.Author.Rules.{rules}
-use Rattle.bytes.specs.Words.{little_endian}
-use Rattle.bytes.specs.Areas.{put}
-use Rattle.bytes.proofs.Numbers.{length-little_endian}
-use Rattle.bytes.proofs.Areas.{then-put}
+use Rattle.octets.specs.Words.{little_endian}
+use Rattle.octets.specs.Areas.{put}
+use Rattle.octets.proofs.Numbers.{length-little_endian}
+use Rattle.octets.proofs.Areas.{then-put}
 use Rattle.ticketed.proofs.Halves.{halves}
 use Rattle.ticketed.proofs.words.put_u64.Statement.{statement}
 use Rattle.ticketed.proofs.words.put_u64.Tie as tie

@@ -8,8 +8,8 @@ use native.Mathlib.Omega.{arith}
 use lib.ListN.{length, get_or, set, length-set}
 use lib.Seq.{paste, paste-zero, paste-suc, take_all}
 use borrow.Author.Rules.{rules}
-use Rattle.bytes.specs.Areas.{put}
-use Rattle.bytes.proofs.Areas.{put_front, pasted}
+use Rattle.octets.specs.Areas.{put}
+use Rattle.octets.proofs.Areas.{put_front, pasted}
 use Rattle.winder.proofs.record_calls.copy.Statement.{statement}
 use Rattle.winder.proofs.record_calls.copy.Tie as tie
 

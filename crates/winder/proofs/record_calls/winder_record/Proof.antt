@@ -7,8 +7,8 @@ use native.Mathlib.Omega.{arith}
 use lib.ListN.{length}
 use borrow.Author.Rules.{rules}
 use borrow.Author.Tests.{not-true, not-false, lt-ltb, le-ltb}
-use Rattle.bytes.specs.Words.{AllBytes}
-use Rattle.bytes.specs.Areas.{over}
+use Rattle.octets.specs.Words.{AllBytes}
+use Rattle.octets.specs.Areas.{over}
 use Rattle.records.specs.Reading.{is_done, is_record}
 use Rattle.records.proofs.IsRecord.{read-is-done}
 use Rattle.winder.proofs.Recordings.{recording-15, recording-5, recording-done}

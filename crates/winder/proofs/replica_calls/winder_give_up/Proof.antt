@@ -7,7 +7,7 @@ use native.Mathlib.Omega.{arith}
 use lib.ListN.{length}
 use borrow.Author.Rules.{rules}
 use borrow.Author.Tests.{not-true, not-false}
-use Rattle.bytes.specs.Words.{AllBytes}
+use Rattle.octets.specs.Words.{AllBytes}
 use Rattle.replica.specs.declared.Replica.{Replica}
 use Rattle.replica.specs.Calls.{give_up_outcome}
 use Rattle.replica.proofs.Accepted.{fit}

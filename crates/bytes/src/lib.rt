@@ -1,3 +1,0 @@
-// Numbers and lists of values as bytes, the lowest byte first. Callers are proved; what is open to others is in frame.
-pub mod values;
-pub mod word;

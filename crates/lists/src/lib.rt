@@ -1,3 +1,2 @@
 // Lists, choices and tests: definitions and laws that the other crates share. There is no code here.
 #![tactic(auto)]
-

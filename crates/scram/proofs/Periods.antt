@@ -6,7 +6,6 @@ use native.Mathlib.Omega.{arith}
 use Rattle.lists.specs.Choice.{pick}
 use Rattle.lists.proofs.Choice.{pick-ok}
 use Rattle.scram.specs.Held.{Law, Group, Best, Held, Kind, Message, Outcome}
-use Rattle.scram.specs.declared.Kind.TheVariants as Kind
 use Rattle.scram.specs.Events.{refusing, estimate_of, entered, ticked, raise, after_tick, tick, give_up, hear_ack, hear_estimate, receive, arrive}
 use Rattle.scram.specs.Shown.{is_refused}
 

@@ -9,7 +9,6 @@ use native.Mathlib.Omega.{arith}
 use lib.Dec.{T, eqb, ltb, eqb→eq, eqb_refl, ltb→lt, nltb→le, nleb→lt}
 use Rattle.scram.specs.Quorum.{among}
 use Rattle.scram.specs.Held.{Law, Group, Held, Kind, Message, Outcome}
-use Rattle.scram.specs.declared.Kind.TheVariants as Kind
 use Rattle.scram.specs.Events.{bad_sender, bad_place, bad_base, idle, stale, unwanted, ignores, largest, last_period, last_view}
 use Rattle.scram.specs.Events.{refusing, ignoring, doing, estimate_of, entered, ticked, leads, after_tick, tick, give_up, hear_estimate, receive, arrive}
 use Rattle.scram.specs.Shown.{is_refused}

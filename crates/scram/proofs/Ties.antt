@@ -9,7 +9,6 @@ use Prim.Native.Nat.{ℕ, ◌≤◌, ◌<◌}
 use lib.Dec.{T}
 use Rattle.scram.specs.Quorum.{among}
 use Rattle.scram.specs.Held.{Law, Group, Estimate, Held, Kind, Message, Command, Outcome}
-use Rattle.scram.specs.declared.Kind.TheVariants as Kind
 use Rattle.scram.specs.Events.{command_of}
 use Rattle.scram.proofs.Rows.{AtMost}
 use Rattle.scram.proofs.Facts.{Facts, RowsTo, Based, Gave, Chosen, Consistent}

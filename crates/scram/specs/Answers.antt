@@ -1,7 +1,6 @@
 -- What a step answers, in document 01's words: "what was called for, an event ignored, or one of the numbered refusals".
 use Rattle.std.specs.Prelude.{ℕ}
 use Rattle.scram.specs.declared.Answer.{Answer}
-use Rattle.scram.specs.declared.Answer.TheVariants as Answer
 
 pub data Answered : Type 0 where
   Done : Answered

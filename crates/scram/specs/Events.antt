@@ -5,7 +5,6 @@ use Rattle.std.proofs.Math.Option.{Option, none, some}
 use Rattle.lists.specs.Choice.{pick}
 use Rattle.scram.specs.Quorum.{nobody, among, with, count, beats}
 use Rattle.scram.specs.Held.{Law, Group, Estimate, Best, Held, Kind, Message, Command, Outcome, no_estimate, no_best}
-use Rattle.scram.specs.declared.Kind.TheVariants as Kind
 use Rattle.scram.specs.Answers.{Done, Ignored, Refused}
 
 -- the largest period and the largest view, of 32 bits

@@ -10,9 +10,9 @@ use Rattle.lists.specs.Choice.{pick}
 use Rattle.lists.proofs.Booleans.{never, both, second-fails}
 use Rattle.lists.proofs.Choice.{pick_true, pick-false, pick_same}
 use Rattle.tickets.specs.Tickets.{Tickets, largest_ticket, is_spent, ticket_for, voided, after_ask, after_step, commits, after_commit}
-use Rattle.tickets.specs.Calls.{Result, Call, Step, Ask, Commit, Return, Given, Stepped, Asked, Committed, Returned, Box, after, given, all_given}
+use Rattle.tickets.specs.Calls.{Result, Call, Step, Ask, Commit, Return, Stepped, Asked, Committed, Box, after, given, all_given}
 use Rattle.tickets.specs.Calls.{after_all, higher, called_higher, given_higher, asks_in, NeverCommitted}
-use Rattle.tickets.proofs.Laws.{ticket-next, ask-next, step-made, step-not-made, another}
+use Rattle.tickets.proofs.Laws.{ticket-next, ask-next, another}
 
 -- ---- tickets by one higher
 

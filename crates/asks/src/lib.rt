@@ -18,7 +18,7 @@ use ticket::{after_step, commits, no_tickets};
 use transmitters::Reading;
 
 // The latest ticket given, 0 before the first; whether it can be committed; and what the step leaves that the latest ask with the answer ok was for.
-#[derive(Drop)]
+#[derive(Clone, Copy)]
 pub struct Tickets {
     pub latest: u64,
     pub pending: bool,
@@ -26,7 +26,7 @@ pub struct Tickets {
 }
 
 // A replica, and the tickets beside it.
-#[derive(Drop)]
+#[derive(Clone, Copy)]
 pub struct Ticketed {
     pub replica: Replica,
     pub tickets: Tickets,
@@ -34,7 +34,7 @@ pub struct Ticketed {
 
 // What an ask gives: its answer, its ticket, the replica with its tickets, and the lengths written to the frame area and to the command area, 0 where
 // nothing was.
-#[derive(Drop)]
+#[derive(Clone, Copy)]
 pub struct Asked {
     pub answer: Answer,
     pub ticket: u64,
@@ -44,7 +44,7 @@ pub struct Asked {
 }
 
 // What a step gives that was not asked.
-#[derive(Drop)]
+#[derive(Clone, Copy)]
 pub struct Stepped {
     pub answer: Answer,
     pub ticketed: Ticketed,
@@ -53,7 +53,7 @@ pub struct Stepped {
 }
 
 // What a commit gives.
-#[derive(Drop)]
+#[derive(Clone, Copy)]
 pub struct Committed {
     pub answer: Answer,
     pub ticketed: Ticketed,

@@ -10,7 +10,7 @@ ghost use Rattle.estimate.specs.Fields.{no_estimate};
 use readings::Readings;
 
 // A state, and the readings that it is to be updated with.
-#[derive(Drop)]
+#[derive(Clone, Copy)]
 pub struct Estimate {
     pub state: [i32; 6],
     pub readings: Readings,

@@ -30,7 +30,7 @@ use lengths::{COMMAND_START, HEADER_LENGTH, LONGEST_COMMAND, LONGEST_FRAME, PART
 use parts::{checked_readings, pairs_ok, put_pairs};
 
 // The kind is one of `kinds`. Where it has no parts, the bytes carry no estimate.
-#[derive(Drop)]
+#[derive(Clone, Copy)]
 pub struct Frame {
     pub kind: u8,
     pub sender: u8,
@@ -42,7 +42,7 @@ pub struct Frame {
 }
 
 // Done: nothing is refused. Sizes is refusal 2, Area 5 and Malformed 8.
-#[derive(Drop)]
+#[derive(Clone, Copy)]
 pub enum Answer {
     Done,
     Sizes,
@@ -63,14 +63,14 @@ pub fn number_of(answer: Answer) -> u8
 }
 
 // The frame is blank where reading is refused.
-#[derive(Drop)]
+#[derive(Clone, Copy)]
 pub struct Parsed {
     pub answer: Answer,
     pub frame: Frame,
 }
 
 // What the bytes of a command say. It is limited where clamping or limits changed a value in the update or the command it comes from.
-#[derive(Drop)]
+#[derive(Clone, Copy)]
 pub struct CommandFields {
     pub period: u32,
     pub values: [i32; 4],
@@ -78,14 +78,14 @@ pub struct CommandFields {
 }
 
 // The command is all 0, and not marked, where reading is refused.
-#[derive(Drop)]
+#[derive(Clone, Copy)]
 pub struct ParsedCommand {
     pub answer: Answer,
     pub command: CommandFields,
 }
 
 // The length is 0 where writing is refused.
-#[derive(Drop)]
+#[derive(Clone, Copy)]
 pub struct Written {
     pub answer: Answer,
     pub length: usize,

@@ -42,7 +42,7 @@ pub(crate) fn pairs_ok(n: usize, m: usize, bytes: &[u8]) -> bool
 }
 
 // `ok` says that a frame may have the part; only then are these its readings.
-#[derive(Drop)]
+#[derive(Clone, Copy)]
 pub(crate) struct Checked {
     pub ok: bool,
     pub readings: Readings,

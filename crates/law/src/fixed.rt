@@ -25,7 +25,7 @@ pub(crate) fn divide(x: i64) -> i64
 }
 
 // A value brought into limits, and whether that changed it.
-#[derive(Drop)]
+#[derive(Clone, Copy)]
 pub(crate) struct Limited {
     pub(crate) value: i32,
     pub(crate) changed: bool,

@@ -16,7 +16,7 @@ use readings::Readings;
 
 // n states, m readings and p commands. A(i,j) is a[i * 6 + j], L(i,j) is l[i * 4 + j], C(j,i) is c[j * 6 + i] and K(j,i) is k[j * 6 + i],
 // all counted from 0. Command j has the limits low[j] and high[j], and start is the starting state. Places beyond n, m and p are not looked at.
-#[derive(Drop)]
+#[derive(Clone, Copy)]
 pub struct Settings {
     pub n: usize,
     pub m: usize,
@@ -31,7 +31,7 @@ pub struct Settings {
 }
 
 // What a call says of its settings: done, or the ground on which they are refused. Document 01 numbers the grounds 2, 3 and 4.
-#[derive(Drop)]
+#[derive(Clone, Copy)]
 pub enum Answer {
     Done,
     Sizes,
@@ -40,7 +40,7 @@ pub enum Answer {
 }
 
 // What an update gives: its state is the one handed in where the settings are refused. It is limited where clamping changed a value.
-#[derive(Drop)]
+#[derive(Clone, Copy)]
 pub struct Updated {
     pub answer: Answer,
     pub state: [i32; 6],
@@ -48,7 +48,7 @@ pub struct Updated {
 }
 
 // What a command gives: its values are 0 where the settings are refused. It is limited where limits changed a value.
-#[derive(Drop)]
+#[derive(Clone, Copy)]
 pub struct Commanded {
     pub answer: Answer,
     pub values: [i32; 4],
@@ -56,7 +56,7 @@ pub struct Commanded {
 }
 
 // Commands with their mark: whether clamping or limits changed a value on the way to them.
-#[derive(Drop)]
+#[derive(Clone, Copy)]
 pub struct Marked {
     pub commands: [i32; 4],
     pub limited: bool,

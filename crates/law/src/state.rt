@@ -9,14 +9,14 @@ use crate::fixed::{Limited, clamp_i32, divide, sum_of_products};
 use readings::Readings;
 
 // e(j) of each reading, and whether clamping changed one.
-#[derive(Drop)]
+#[derive(Clone, Copy)]
 pub(crate) struct InnovationRow {
     pub(crate) row: [i32; 4],
     pub(crate) changed: bool,
 }
 
 // A state after a period, and whether clamping changed a value on the way to it.
-#[derive(Drop)]
+#[derive(Clone, Copy)]
 pub(crate) struct Next {
     pub(crate) state: [i32; 6],
     pub(crate) changed: bool,

@@ -12,7 +12,7 @@ use transmitters::Reading;
 
 // A tick at a box; a view given up by a box; the frame that a line sent, delivered to a box; the record of a box stored; a box that comes back, with so
 // many missed periods; a ticket that a box commits; the record that the latest ask of a box gave, stored.
-#[derive(Drop)]
+#[derive(Clone, Copy)]
 pub enum Event {
     Tick(u8),
     GiveUp(u8),
@@ -25,13 +25,13 @@ pub enum Event {
 }
 
 // A place of a row, since the prover covers no field that is an array of enums.
-#[derive(Drop)]
+#[derive(Clone, Copy)]
 pub struct Place {
     pub reading: Reading,
 }
 
 // What a line calls for: an event, whether it is asked only, and the readings of a tick.
-#[derive(Drop)]
+#[derive(Clone, Copy)]
 pub struct Called {
     pub event: Event,
     pub asks: bool,
@@ -39,7 +39,7 @@ pub struct Called {
 }
 
 // The readings so far, and whether each field was one.
-#[derive(Drop)]
+#[derive(Clone, Copy)]
 struct Row {
     readings: [Place; 4],
     all: bool,

@@ -4,7 +4,7 @@ ghost use Rattle.text.specs.Numbers.{is_digit, well_begun};
 ghost use Rattle.line.specs.Tickets.{largest, goes_on, spelled, ticket_of, is_ticket, number_in};
 
 // What digits spell: a number of 64 bits, or none.
-#[derive(Drop)]
+#[derive(Clone, Copy)]
 pub enum Ticket {
     Spelled(u64),
     NoTicket,

@@ -16,7 +16,7 @@ use replica::Settings;
 use text::numbers::{Number, is_whole, number_in, value_of};
 
 // What the first line is: not of the form, refused by 1 or 2, or settings that making is to look at.
-#[derive(Drop)]
+#[derive(Clone, Copy)]
 pub enum Opening {
     Bad,
     Refused(u8),
@@ -24,7 +24,7 @@ pub enum Opening {
 }
 
 // The numbers of boxes, states, readings and commands; 256 for one that is none from 0 to 255.
-#[derive(Drop)]
+#[derive(Clone, Copy)]
 struct Sizes {
     boxes: usize,
     n: usize,
@@ -33,7 +33,7 @@ struct Sizes {
 }
 
 // The fields at which L, C, K, the limits and the start begin, after A, and how many numbers there are.
-#[derive(Drop)]
+#[derive(Clone, Copy)]
 struct Starts {
     l: usize,
     c: usize,
@@ -45,7 +45,7 @@ struct Starts {
 }
 
 // What the first line opens: where it is ready, the settings are those of box 1.
-#[derive(Drop)]
+#[derive(Clone, Copy)]
 pub struct Opened {
     pub opening: Opening,
     pub settings: Settings,

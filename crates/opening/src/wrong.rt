@@ -12,7 +12,7 @@ use text::printing::at_most;
 
 // Nothing, a field (counted from 1), a quorum number (by its field, counted from 1), how many fields there are and how many are needed, or the settings,
 // by the number of their refusal.
-#[derive(Drop)]
+#[derive(Clone, Copy)]
 pub enum Wrong {
     Nothing,
     Field(usize),

@@ -5,7 +5,7 @@ ghost use Rattle.pages.specs.Entries.{commands_ok, entry_of, blank as Entries·b
 use octets::word::signed;
 
 // A period, the view in it, and its command where there is one: of the four values as many count as a page has commands.
-#[derive(Drop)]
+#[derive(Clone, Copy)]
 pub struct Entry {
     pub period: u32,
     pub view: u32,

@@ -19,7 +19,7 @@ pub const MOST: usize = 60;
 pub const PAGE: usize = 4380;
 
 // A page: the first `count` lines are in use, and their periods rise.
-#[derive(Drop)]
+#[derive(Clone, Copy)]
 pub struct Page {
     pub lines: [Entry; MOST],
     pub count: usize,

@@ -9,7 +9,7 @@ use crate::entries::{Entry, WORDS, blank, entry_at};
 use crate::lines::{MOST, Page};
 
 // The lowest periods, as many as a page has lines; and whether there are more.
-#[derive(Drop)]
+#[derive(Clone, Copy)]
 pub struct Placed {
     pub page: Page,
     pub more: bool,

@@ -12,7 +12,7 @@ use crate::lines::{LINE, MOST, PAGE, Page, put_lines};
 use text::numbers::{number_in, read_magnitude, size_of, value_of};
 
 // The answer, and the page, which has no lines where reading is refused.
-#[derive(Drop)]
+#[derive(Clone, Copy)]
 pub struct PageRead {
     pub answer: Answer,
     pub page: Page,

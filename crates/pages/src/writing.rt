@@ -11,7 +11,7 @@ use crate::lines::{PAGE, put_lines};
 use crate::placing::place_words;
 
 // The answer, and the length of the page.
-#[derive(Drop)]
+#[derive(Clone, Copy)]
 pub struct Written {
     pub answer: Answer,
     pub length: usize,

@@ -15,7 +15,7 @@ use text::numbers::{is_size, read_magnitude, size_of};
 
 // What a line is: a step that was done, with its entry and the number of values of its command, a line that neither bench nor rig prints, or another
 // one of theirs.
-#[derive(Drop)]
+#[derive(Clone, Copy)]
 pub struct Printed {
     pub done: bool,
     pub foreign: bool,

@@ -21,7 +21,7 @@ pub const OUTPUT: usize = 39436;
 const PAGES: usize = 9;
 
 // The length of the pages, and how many lines were passed over.
-#[derive(Drop)]
+#[derive(Clone, Copy)]
 pub struct Paged {
     pub length: usize,
     pub passed: usize,

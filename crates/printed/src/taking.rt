@@ -66,7 +66,7 @@ pub(crate) fn first_commands(text: &[u8]) -> usize
 }
 
 // The entries of a text: the first `count` are in use.
-#[derive(Drop)]
+#[derive(Clone, Copy)]
 pub(crate) struct Taken {
     pub(crate) entries: [Entry; MOST],
     pub(crate) count: usize,

@@ -8,7 +8,7 @@ use text::lines::part_end;
 use text::numbers::{is_whole, number_in, value_of};
 
 // Of a list the number of its values, 0 where it is none, and the values.
-#[derive(Drop)]
+#[derive(Clone, Copy)]
 pub(crate) struct Values {
     pub(crate) count: usize,
     pub(crate) values: [i32; 6],

@@ -5,7 +5,7 @@ ghost use Rattle.std.specs.Prelude.{◌≡◌, ◌<◌};
 ghost use Rattle.quorums.specs.Quorums.{outside, bad_quorums, majorities};
 
 // Document 02's a, the boxes needed to decide, and b, the boxes heard before a new coordinator proposes.
-#[derive(Drop)]
+#[derive(Clone, Copy)]
 pub struct Quorums {
     pub to_decide: u8,
     pub to_propose: u8,

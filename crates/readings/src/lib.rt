@@ -6,7 +6,7 @@ ghost use Rattle.lists.specs.Choice.{pick};
 ghost use Rattle.readings.specs.Readings.{normalised, no_readings, mark_beyond};
 
 // Place j holds the present mark and the value of reading j, counted from 0.
-#[derive(Drop)]
+#[derive(Clone, Copy)]
 pub struct Readings {
     pub present: [bool; 4],
     pub values: [i32; 4],

@@ -18,7 +18,7 @@ use replica::{Replica, Settings};
 use scram::Answer;
 
 // What reading gives: the replica, or a blank one where the bytes are no record.
-#[derive(Drop)]
+#[derive(Clone, Copy)]
 pub struct Parsed {
     pub answer: Answer,
     pub replica: Replica,

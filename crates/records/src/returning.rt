@@ -14,14 +14,14 @@ use transmitters::Reading;
 pub const MOST_MISSED: u32 = 10000;
 
 // What staying up and returning give.
-#[derive(Drop)]
+#[derive(Clone, Copy)]
 pub struct Returned {
     pub answer: Answer,
     pub replica: Replica,
 }
 
 // A missed period: whether its tick is refused, and the replica after it.
-#[derive(Drop)]
+#[derive(Clone, Copy)]
 struct Missed {
     refused: bool,
     replica: Replica,

@@ -24,7 +24,7 @@ use scram::Answer;
 use transmitters::Reading;
 
 // The group's size N, the box's own number, the quorum numbers, and the settings of the law. Those of one group differ in the own number alone.
-#[derive(Drop)]
+#[derive(Clone, Copy)]
 pub struct Settings {
     pub boxes: u8,
     pub own: u8,
@@ -33,7 +33,7 @@ pub struct Settings {
 }
 
 // The best estimate heard in a view change: whether there is one, the box that it came from, its bases, and the estimate.
-#[derive(Drop)]
+#[derive(Clone, Copy)]
 pub struct Best {
     pub any: bool,
     pub box_number: u8,
@@ -43,7 +43,7 @@ pub struct Best {
 }
 
 // What a replica holds besides its settings, which no event changes. Place j of heard is for box j.
-#[derive(Drop)]
+#[derive(Clone, Copy)]
 pub struct Held {
     pub period: u32,
     pub view: u32,
@@ -56,14 +56,14 @@ pub struct Held {
     pub best: Best,
 }
 
-#[derive(Drop)]
+#[derive(Clone, Copy)]
 pub struct Replica {
     pub settings: Settings,
     pub held: Held,
 }
 
 // What a step gives back: its answer, the replica, and the lengths written to the two lent areas, 0 where nothing was.
-#[derive(Drop)]
+#[derive(Clone, Copy)]
 pub struct Stepped {
     pub answer: Answer,
     pub replica: Replica,
@@ -72,7 +72,7 @@ pub struct Stepped {
 }
 
 // What a step gives beside the settings, which stay: its answer, what is held then, and the lengths written to the two lent areas, 0 where nothing was.
-#[derive(Drop)]
+#[derive(Clone, Copy)]
 pub struct Given {
     pub answer: Answer,
     pub held: Held,
@@ -81,14 +81,14 @@ pub struct Given {
 }
 
 // What making gives: the fresh replica, or a blank one where the settings are refused.
-#[derive(Drop)]
+#[derive(Clone, Copy)]
 pub struct Made {
     pub answer: Answer,
     pub replica: Replica,
 }
 
 // The few numbers of the settings that the rules need: N, the own number, the quorum numbers, and the sizes of a frame.
-#[derive(Drop)]
+#[derive(Clone, Copy)]
 struct Member {
     boxes: u8,
     own: u8,
@@ -98,7 +98,7 @@ struct Member {
 }
 
 // What a rule gives: the answer, what is held then, the length of the frame sent, and whether the command of the estimate held is issued.
-#[derive(Drop)]
+#[derive(Clone, Copy)]
 struct Moved {
     answer: Answer,
     held: Held,

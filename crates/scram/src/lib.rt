@@ -6,7 +6,7 @@ pub mod quorum;
 pub mod refusals;
 
 // The kinds of frames: 1 Propose, 2 Ack, 3 Decide, 4 Estimate.
-#[derive(Drop)]
+#[derive(Clone, Copy)]
 pub enum Kind {
     Propose,
     Ack,
@@ -15,7 +15,7 @@ pub enum Kind {
 }
 
 // What a step answers: what was called for was done, the event was ignored, or it was refused by a number of document 01.
-#[derive(Drop)]
+#[derive(Clone, Copy)]
 pub enum Answer {
     Done,
     Ignored,

@@ -15,7 +15,7 @@ use scram::Answer;
 use transmitters::Reading;
 
 // What an ask gives: its answer and its ticket, what is kept of the box then, and the replica that is shown.
-#[derive(Drop)]
+#[derive(Clone, Copy)]
 pub(crate) struct AskEffect {
     pub(crate) answer: Answer,
     pub(crate) ticket: u64,

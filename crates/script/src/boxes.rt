@@ -14,7 +14,7 @@ use scram::Answer;
 use transmitters::Reading;
 
 // A frame and a command, in areas as long as the longest, and their lengths, 0 where there is none.
-#[derive(Drop)]
+#[derive(Clone, Copy)]
 pub(crate) struct Outgoing {
     pub(crate) frame: [u8; LONGEST_FRAME],
     pub(crate) sent: usize,
@@ -23,14 +23,14 @@ pub(crate) struct Outgoing {
 }
 
 // The latest ask of a box since it was made or returned: whether its answer was ok, and what it gave.
-#[derive(Drop)]
+#[derive(Clone, Copy)]
 pub(crate) struct Latest {
     pub(crate) ok: bool,
     pub(crate) gave: Outgoing,
 }
 
 // What is kept of a box: its replica with tickets, whether a record was stored, the replica whose record was stored last, and the latest ask.
-#[derive(Drop)]
+#[derive(Clone, Copy)]
 pub(crate) struct Kept {
     pub(crate) ticketed: Ticketed,
     pub(crate) stored: bool,
@@ -39,7 +39,7 @@ pub(crate) struct Kept {
 }
 
 // What an event gives: its answer, the frame and the command that leave, and what is kept of the box then.
-#[derive(Drop)]
+#[derive(Clone, Copy)]
 pub(crate) struct Effect {
     pub(crate) answer: Answer,
     pub(crate) gave: Outgoing,

@@ -6,7 +6,7 @@ ghost use Rattle.script.specs.Printing.{ticket_word};
 use text::printing::{put_byte, put_word};
 
 // Digits, right-aligned: those from `from` on are in use.
-#[derive(Drop)]
+#[derive(Clone, Copy)]
 struct Digits {
     bytes: [u8; 20],
     from: usize,

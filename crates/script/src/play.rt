@@ -23,7 +23,7 @@ pub(crate) const TABLE: usize = 34569;
 pub(crate) const LENGTHS: usize = 501;
 
 // What a line leaves: what is kept of its box, and where the text that was printed ends.
-#[derive(Drop)]
+#[derive(Clone, Copy)]
 pub(crate) struct PlayedLine {
     pub(crate) kept: Kept,
     pub(crate) end: usize,

@@ -3,14 +3,14 @@ ghost use Rattle.std.specs.Prelude.{◌≡◌, ◌+◌, ◌*◌, ◌-◌, ◌≤
 ghost use Rattle.text.specs.Numbers.{is_digit, goes_on, spelled, well_begun, magnitude, is_minus, negative, positive, number_of, size_in, is_size, counted, value_in, is_whole};
 
 // What the bytes of a field are: a number, or none that may be written.
-#[derive(Drop)]
+#[derive(Clone, Copy)]
 pub enum Number {
     Whole(i32),
     Malformed,
 }
 
 // What digits spell: a number of 32 bits, or none.
-#[derive(Drop)]
+#[derive(Clone, Copy)]
 pub enum Magnitude {
     Digits(u32),
     Other,

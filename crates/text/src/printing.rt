@@ -35,7 +35,7 @@ pub fn put_word(text: &mut [u8], at: usize, word: &[u8]) -> usize
 }
 
 // Digits, right-aligned: those from `from` on are in use.
-#[derive(Drop)]
+#[derive(Clone, Copy)]
 struct Digits {
     bytes: [u8; 10],
     from: usize,

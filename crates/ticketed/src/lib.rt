@@ -13,14 +13,14 @@ use replica::Replica;
 use scram::Answer;
 
 // What reading finds: whether the bytes are a replica with tickets, and the replica, or a blank one where they are not.
-#[derive(Drop)]
+#[derive(Clone, Copy)]
 struct Found {
     ok: bool,
     replica: Replica,
 }
 
 // What an ask gives: its answer, its ticket, and the lengths written to the frame area and to the command area, 0 where nothing was.
-#[derive(Drop)]
+#[derive(Clone, Copy)]
 pub struct Asked {
     pub answer: Answer,
     pub ticket: u64,
@@ -29,7 +29,7 @@ pub struct Asked {
 }
 
 // What a step gives that was not asked.
-#[derive(Drop)]
+#[derive(Clone, Copy)]
 pub struct Stepped {
     pub answer: Answer,
     pub frame: usize,

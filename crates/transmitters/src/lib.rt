@@ -11,7 +11,7 @@ use readings::Readings;
 use single::convert_single;
 
 // A count, an IEEE 754 single in newtons, or marked missing.
-#[derive(Drop)]
+#[derive(Clone, Copy)]
 pub enum Reading {
     Count(i32),
     Newtons(f32),
@@ -19,7 +19,7 @@ pub enum Reading {
 }
 
 // What the law reads of a reading: a present mark and a count in units of 1/65536, 0 where it is missing.
-#[derive(Drop)]
+#[derive(Clone, Copy)]
 pub struct Converted {
     pub present: bool,
     pub value: i32,

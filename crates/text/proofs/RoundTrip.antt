@@ -53,15 +53,15 @@ leads (suc k) n tail h s = by (ltb n 10) refl (λ p. leads k (n / 10) ((48 + n %
         let r = more (some k refl l) in
         record { d = r.d; rest = r.rest; is = more-digits k n tail l ∙ r.is; small = r.small; lead = λ m. r.lead (omega arith) }
 
-goes_on : (n d : ℕ) → d < 10 → 10 * n + d ≤ 4294967295 → goes_on n (48 + d) ≡ true
+goes-on : (n d : ℕ) → d < 10 → 10 * n + d ≤ 4294967295 → goes_on n (48 + d) ≡ true
 unfolding goes_on is_digit
-goes_on n d h l = rw (le-leb 48 (48 + d) (omega arith), le-leb (48 + d) 57 (omega arith), le-leb (10 * n + (48 + d - 48)) 4294967295 (omega arith))
+goes-on n d h l = rw (le-leb 48 (48 + d) (omega arith), le-leb (48 + d) 57 (omega arith), le-leb (10 * n + (48 + d - 48)) 4294967295 (omega arith))
 
 spelled-one : (n d v : ℕ) (tail : List ℕ) → d < 10 → 10 * n + d ≡ v → v ≤ 4294967295 → spelled n ((48 + d) ∷ tail) ≡ spelled v tail
 unfolding spelled pick
 spelled-one n d v tail h e l =
     let s : 10 * n + (48 + d - 48) ≡ v = omega arith in
-    rw (goes_on n d h (omega arith), s)
+    rw (goes-on n d h (omega arith), s)
 
 -- the digits of n spell n
 spelled-digits : (k n : ℕ) (tail : List ℕ) → n < 10 ^ k → n ≤ 4294967295 → spelled 0 (digits_before k n tail) ≡ spelled n tail

@@ -7,9 +7,9 @@ ghost use Rattle.frame.specs.CommandReading.{is_command, command_in};
 
 use crate::CommandFields;
 use crate::lengths::{COMMAND_START, command_length};
+use estimate::marks::bit_of;
 use octets::values::{VALUE_LENGTH, put_values, read_values};
 use octets::word::{put_4, put_u32, u32_at};
-use estimate::marks::bit_of;
 
 // Writes a command and returns its length.
 pub(crate) fn put_command(

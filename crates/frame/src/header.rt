@@ -8,8 +8,8 @@ ghost use Rattle.frame.specs.Reading.{header_ok, headed};
 use crate::Frame;
 use crate::kinds::{kind_ok, part_count};
 use crate::lengths::{HEADER_LENGTH, frame_length};
-use octets::word::{put_4, put_u32, u32_at};
 use estimate::Estimate;
+use octets::word::{put_4, put_u32, u32_at};
 
 // Length, kind, part count and byte 3 are what they must be.
 pub(crate) fn header_ok(n: usize, m: usize, bytes: &[u8]) -> bool

@@ -3,8 +3,8 @@ ghost use Rattle.std.specs.Prelude.{◌≡◌, ◌≤◌};
 ghost use Rattle.frame.specs.Lengths.{frame_length, command_length};
 
 use crate::kinds::has_parts;
-use octets::values::VALUE_LENGTH;
 use estimate::parts::estimate_length;
+use octets::values::VALUE_LENGTH;
 
 pub(crate) const HEADER_LENGTH: usize = 20;
 

@@ -19,7 +19,6 @@ ghost use Rattle.frame.specs.Writing.{well_formed, write_refusal, written};
 ghost use Rattle.frame.specs.Command.{command_refusal, command_written, command_values, command_limited};
 ghost use Rattle.frame.specs.CommandReading.{read_command_refusal, read_command, no_command};
 
-use octets::values::read_values;
 use command::{command_in, is_command, put_command};
 use estimate::marks::is_writable;
 use estimate::parts::{estimate_length, put_estimate, read_state, readings_length, state_length};
@@ -27,6 +26,7 @@ use estimate::{Estimate, no_estimate};
 use header::{headed_by, header_ok, put_header};
 use kinds::{has_parts, kind_ok};
 use lengths::{COMMAND_START, HEADER_LENGTH, LONGEST_COMMAND, LONGEST_FRAME, PARTS_START};
+use octets::values::read_values;
 use parts::{checked_readings, pairs_ok, put_pairs};
 
 // The kind is one of `kinds`. Where it has no parts, the bytes carry no estimate.

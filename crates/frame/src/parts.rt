@@ -8,10 +8,10 @@ ghost use Rattle.frame.specs.Format.{pairs};
 ghost use Rattle.frame.specs.Reading.{pairs_ok};
 
 use crate::lengths::{HEADER_LENGTH, PAIR_LENGTH, PARTS_START};
-use octets::values::VALUE_LENGTH;
-use octets::word::{put_u16, signed, u16_at, u32_at};
 use estimate::marks::marks_below;
 use estimate::parts::{readings_length, state_length};
+use octets::values::VALUE_LENGTH;
+use octets::word::{put_u16, signed, u16_at, u32_at};
 use readings::{Readings, no_readings};
 
 // Where the pairs stand: of each part its offset, then its length.

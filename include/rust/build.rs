@@ -1,4 +1,4 @@
-//! Links the archive of crate winder, which `rt` makes and cargo does not.
+//! Links the archive of crate winder_c, which `rt` makes and cargo does not.
 
 use std::path::Path;
 use std::process::exit;
@@ -8,7 +8,7 @@ fn main() {
     let archive = folder.join("libwinder.a");
     println!("cargo:rerun-if-changed={}", archive.display());
     if !archive.is_file() {
-        eprintln!("there is no target/staticlib/libwinder.a; make it with: rt staticlib winder");
+        eprintln!("there is no target/staticlib/libwinder.a; make it with: bash tools/build winder");
         exit(1);
     }
     println!("cargo:rustc-link-search=native={}", folder.display());

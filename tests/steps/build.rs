@@ -8,7 +8,7 @@ fn main() {
     let archive = folder.join("libsteps.a");
     println!("cargo:rerun-if-changed={}", archive.display());
     if !archive.is_file() {
-        eprintln!("there is no target/staticlib/libsteps.a; make it with: rt staticlib steps");
+        eprintln!("there is no target/staticlib/libsteps.a; make it with: bash tools/build steps");
         exit(1);
     }
     println!("cargo:rustc-link-search=native={}", folder.display());

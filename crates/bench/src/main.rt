@@ -12,24 +12,29 @@ const LINES: usize = 500;
 const TEXT: usize = 1024500;
 
 // Plays a text, prints what is new, and tells how much was printed then.
-fn play(text: &[u8], output: &mut [u8; OUTPUT], printed: usize) -> usize {
+fn play(rt: &impl Print, text: &[u8], output: &mut [u8; OUTPUT], printed: usize) -> usize {
     let n = script::output::bench(text, output);
-    console::write_more(output, printed, n);
+    console::write_more(rt, output, printed, n);
     n
 }
 
 // The header line is printed before anything is read.
-fn run(chunk: &mut [u8; CHUNK], text: &mut [u8; TEXT], output: &mut [u8; OUTPUT]) {
+fn run(
+    rt: &(impl Input + Print),
+    chunk: &mut [u8; CHUNK],
+    text: &mut [u8; TEXT],
+    output: &mut [u8; OUTPUT],
+) {
     let mut gathered = console::nothing();
-    let mut printed = play(console::first(text, 0), output, 0);
+    let mut printed = play(rt, console::first(text, 0), output, 0);
     let mut played = 0;
     let mut turns = u64::MAX;
     while 0 < turns {
         turns -= 1;
-        gathered = console::read_more(gathered, LINES, chunk, text);
+        gathered = console::read_more(rt, gathered, LINES, chunk, text);
         let size = console::ready(gathered);
         if played < size {
-            printed = play(console::first(text, size), output, printed);
+            printed = play(rt, console::first(text, size), output, printed);
             played = size;
         }
         if gathered.ended {
@@ -38,9 +43,9 @@ fn run(chunk: &mut [u8; CHUNK], text: &mut [u8; TEXT], output: &mut [u8; OUTPUT]
     }
 }
 
-fn main() {
+fn main(rt: HostRuntime) {
     let mut chunk = [0u8; CHUNK];
     let mut text = [0u8; TEXT];
     let mut output = [0u8; OUTPUT];
-    run(&mut chunk, &mut text, &mut output);
+    run(&rt, &mut chunk, &mut text, &mut output);
 }

@@ -5,7 +5,7 @@
 ghost use Rattle.std.specs.Prelude.{◌≡◌, ◌≤◌, length, take, drop};
 ghost use Rattle.lists.specs.Choice.{pick};
 
-use libc::{STDERR_FILENO, STDIN_FILENO, STDOUT_FILENO};
+use std::io::Read;
 use text::printing::{at_most, put_byte};
 
 // Of a line so many bytes are kept. No line of a script has as many (line/proofs/LongLines.antt, opening/proofs/LongOpening.antt): a line that is
@@ -17,7 +17,7 @@ pub const CHUNK: usize = 65536;
 
 // The text so far: the first `end` bytes of an area, of which the first `whole` are whole lines, and the last line has `column` bytes. It has `lines`
 // line feeds, and nothing follows where the input ended.
-#[derive(Drop)]
+#[derive(Clone, Copy)]
 pub struct Gathered {
     pub end: usize,
     pub whole: usize,
@@ -103,13 +103,18 @@ pub fn first(bytes: &[u8], n: usize) -> &[u8]
     &bytes[0..n]
 }
 
-// Reads once from standard input. The text ends where the input does, or with `most` lines. That the area has the bytes on standard input, each line
-// cut, no contract can say.
-pub fn read_more(g: Gathered, most: usize, chunk: &mut [u8; CHUNK], area: &mut [u8]) -> Gathered
+// Reads once from standard input. The text ends where the input does or a read fails, or with `most` lines. That the area has the bytes on standard
+// input, each line cut, no contract can say.
+pub fn read_more(
+    rt: &impl Input,
+    g: Gathered,
+    most: usize,
+    chunk: &mut [u8; CHUNK],
+    area: &mut [u8],
+) -> Gathered
     ensures { result.end ≤ length area.old }
 {
-    let got = libc::read(STDIN_FILENO, chunk);
-    let filled = io::count(got, chunk);
+    let filled = rt.reader().read(chunk).unwrap_or(0);
     let before = Gathered {
         end: at_most(g.end, area.len()),
         whole: g.whole,
@@ -129,22 +134,22 @@ pub fn read_more(g: Gathered, most: usize, chunk: &mut [u8; CHUNK], area: &mut [
 
 // Hands the bytes of an area after the first `from`, up to the first n, to standard output, and tells how many those are. What was written no
 // contract can say.
-pub fn write_more(bytes: &[u8], from: usize, n: usize) -> usize
+pub fn write_more(rt: &impl Print, bytes: &[u8], from: usize, n: usize) -> usize
     ensures { result ≡ length (drop from (take n bytes.now)) }
 {
     let text = first(bytes, n);
     if text.len() <= from {
         return 0;
     }
-    io::write_all(STDOUT_FILENO, &text[from..]);
+    let _ = rt.write_all(&text[from..]);
     text.len() - from
 }
 
 // Hands the first n bytes of an area to standard error, and tells how many those are.
-pub fn write_error(bytes: &[u8], n: usize) -> usize
+pub fn write_error(stderr: &impl Print, bytes: &[u8], n: usize) -> usize
     ensures { result ≡ length (take n bytes.now) }
 {
     let text = first(bytes, n);
-    io::write_all(STDERR_FILENO, text);
+    let _ = stderr.write_all(text);
     text.len()
 }

@@ -13,30 +13,35 @@ const LINES: usize = 502;
 const TEXT: usize = 1028598;
 
 // Prints the pages of a text.
-fn print(text: &[u8], output: &mut [u8; OUTPUT]) {
+fn print(rt: &HostRuntime, text: &[u8], output: &mut [u8; OUTPUT]) {
     let paged = printed::output::pages(text, output);
-    console::write_more(output, 0, paged.length);
-    messages::say_passed(paged.passed);
+    console::write_more(rt, output, 0, paged.length);
+    messages::say_passed(&rt.stderr(), paged.passed);
 }
 
 // Nothing is printed before the input ended: the lowest period may come last.
-fn run(chunk: &mut [u8; CHUNK], text: &mut [u8; TEXT], output: &mut [u8; OUTPUT]) {
+fn run(
+    rt: &HostRuntime,
+    chunk: &mut [u8; CHUNK],
+    text: &mut [u8; TEXT],
+    output: &mut [u8; OUTPUT],
+) {
     let mut gathered = console::nothing();
     let mut turns = u64::MAX;
     while 0 < turns {
         turns -= 1;
-        gathered = console::read_more(gathered, LINES, chunk, text);
+        gathered = console::read_more(rt, gathered, LINES, chunk, text);
         if gathered.ended {
-            print(console::first(text, gathered.end), output);
-            messages::say_cut(gathered.lines, gathered.column);
+            print(rt, console::first(text, gathered.end), output);
+            messages::say_cut(&rt.stderr(), gathered.lines, gathered.column);
             return;
         }
     }
 }
 
-fn main() {
+fn main(rt: HostRuntime) {
     let mut chunk = [0u8; CHUNK];
     let mut text = [0u8; TEXT];
     let mut output = [0u8; OUTPUT];
-    run(&mut chunk, &mut text, &mut output);
+    run(&rt, &mut chunk, &mut text, &mut output);
 }

@@ -8,7 +8,7 @@ const MESSAGE: usize = 64;
 const MOST: usize = 501;
 
 // Says how many lines were passed over, if any were.
-pub(crate) fn say_passed(passed: usize) {
+pub(crate) fn say_passed(stderr: &impl Print, passed: usize) {
     if passed == 0 {
         return;
     }
@@ -16,11 +16,11 @@ pub(crate) fn say_passed(passed: usize) {
     let at = put_word(&mut message, 0, b"page: lines passed over: ");
     let at = put_decimal(&mut message, at, at_most(passed, 4294967295) as u32);
     let at = put_word(&mut message, at, b"\n");
-    console::write_error(&message, at);
+    console::write_error(stderr, &message, at);
 }
 
 // Says that there are more lines than are looked at, where there are; the last one may lack its line feed.
-pub(crate) fn say_cut(lines: usize, column: usize) {
+pub(crate) fn say_cut(stderr: &impl Print, lines: usize, column: usize) {
     if lines < MOST {
         return;
     }
@@ -33,5 +33,5 @@ pub(crate) fn say_cut(lines: usize, column: usize) {
         0,
         b"page: only the first 501 lines are read\n",
     );
-    console::write_error(&message, at);
+    console::write_error(stderr, &message, at);
 }

@@ -9,22 +9,22 @@ mod steps;
 mod takeover;
 
 use frame::lengths::LONGEST_COMMAND;
-use libc::{STDIN_FILENO, STDOUT_FILENO};
+use std::io::Read;
 
 // A letter, and the values of its group's last command, of which there are p.
-fn print(letter: u8, p: usize, command: [u8; LONGEST_COMMAND]) {
+fn print(rt: &impl Print, letter: u8, p: usize, command: [u8; LONGEST_COMMAND]) {
     let mut text = [0u8; 64];
     let values = frame::command_values(&command);
     let at = text::printing::put_byte(&mut text, 0, letter);
     let at = text::printing::put_byte(&mut text, at, 32);
     let at = text::printing::put_list(&mut text, at, &values[0..text::printing::at_most(p, 4)]);
     let at = text::printing::put_byte(&mut text, at, 10);
-    io::write_all(STDOUT_FILENO, &text[0..text::printing::at_most(at, 64)]);
+    let _ = rt.write_all(&text[0..text::printing::at_most(at, 64)]);
 }
 
-fn main() {
+fn main(rt: HostRuntime) {
     let mut letters = [0u8; 4096];
-    let count = io::count(libc::read(STDIN_FILENO, &mut letters), &letters);
+    let count = rt.reader().read(&mut letters).unwrap_or(0);
     let mut a = boxes::made_three();
     let mut b = boxes::made_nine();
     let mut c = boxes::made_three();
@@ -43,9 +43,9 @@ fn main() {
         i += 1;
     }
     let command = a.command;
-    print(b'a', 1, command);
+    print(&rt, b'a', 1, command);
     let command = b.command;
-    print(b'b', 4, command);
+    print(&rt, b'b', 4, command);
     let command = c.command;
-    print(b'c', 1, command);
+    print(&rt, b'c', 1, command);
 }

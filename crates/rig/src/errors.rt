@@ -89,8 +89,8 @@ fn put_message(text: &mut [u8], wrong: Wrong) -> usize {
 }
 
 // Says what is wrong with a first line, if anything is.
-pub(crate) fn say(line: &[u8]) {
+pub(crate) fn say(stderr: &impl Print, line: &[u8]) {
     let mut message = [0u8; MESSAGE];
     let n = put_message(&mut message, wrong_in(line));
-    console::write_error(&message, n);
+    console::write_error(stderr, &message, n);
 }

@@ -14,27 +14,32 @@ const LINES: usize = 501;
 const TEXT: usize = 1026549;
 
 // Plays a text, prints what is new, and tells how much was printed then.
-fn play(text: &[u8], output: &mut [u8; OUTPUT], printed: usize) -> usize {
+fn play(rt: &HostRuntime, text: &[u8], output: &mut [u8; OUTPUT], printed: usize) -> usize {
     let n = script::output::rig(text, output);
-    console::write_more(output, printed, n);
+    console::write_more(rt, output, printed, n);
     if printed == 0 {
-        errors::say(script::output::first_line(text));
+        errors::say(&rt.stderr(), script::output::first_line(text));
     }
     n
 }
 
 // Nothing is printed before the first line is whole, or the input ended.
-fn run(chunk: &mut [u8; CHUNK], text: &mut [u8; TEXT], output: &mut [u8; OUTPUT]) {
+fn run(
+    rt: &HostRuntime,
+    chunk: &mut [u8; CHUNK],
+    text: &mut [u8; TEXT],
+    output: &mut [u8; OUTPUT],
+) {
     let mut gathered = console::nothing();
     let mut printed = 0;
     let mut played = 0;
     let mut turns = u64::MAX;
     while 0 < turns {
         turns -= 1;
-        gathered = console::read_more(gathered, LINES, chunk, text);
+        gathered = console::read_more(rt, gathered, LINES, chunk, text);
         let size = console::ready(gathered);
         if (played < size) | (gathered.ended & (printed == 0)) {
-            printed = play(console::first(text, size), output, printed);
+            printed = play(rt, console::first(text, size), output, printed);
             played = size;
         }
         if gathered.ended {
@@ -43,9 +48,9 @@ fn run(chunk: &mut [u8; CHUNK], text: &mut [u8; TEXT], output: &mut [u8; OUTPUT]
     }
 }
 
-fn main() {
+fn main(rt: HostRuntime) {
     let mut chunk = [0u8; CHUNK];
     let mut text = [0u8; TEXT];
     let mut output = [0u8; OUTPUT];
-    run(&mut chunk, &mut text, &mut output);
+    run(&rt, &mut chunk, &mut text, &mut output);
 }

@@ -72,35 +72,35 @@ fn raised(bytes: [u8; 80], i: usize) -> [u8; 80] {
 }
 
 // A letter for each byte, with line ends where `rows` has them.
-pub(crate) fn damage(bytes: [u8; 80], length: usize) {
+pub(crate) fn damage(rt: &impl Print, bytes: [u8; 80], length: usize) {
     let mut i = 0;
     while i < length {
-        line_at(i);
-        letter(outcome(raised(bytes, i), length));
+        line_at(rt, i);
+        letter(rt, outcome(raised(bytes, i), length));
         i += 1;
     }
-    text(b"\n");
+    text(rt, b"\n");
 }
 
-fn line_at(i: usize) {
+fn line_at(rt: &impl Print, i: usize) {
     match i {
-        0 => text(b"  "),
-        20 => text(b"\n  "),
-        28 => text(b"\n  "),
-        44 => text(b"\n  "),
+        0 => text(rt, b"  "),
+        20 => text(rt, b"\n  "),
+        28 => text(rt, b"\n  "),
+        44 => text(rt, b"\n  "),
         _ => {}
     }
 }
 
 // A letter for each length from 0 to 80, in groups of ten.
-pub(crate) fn lengths(bytes: [u8; 80]) {
+pub(crate) fn lengths(rt: &impl Print, bytes: [u8; 80]) {
     let mut length = 0;
     while length <= 80 {
         if length % 10 == 0 {
-            text(b" ");
+            text(rt, b" ");
         }
-        letter(outcome(bytes, length));
+        letter(rt, outcome(bytes, length));
         length += 1;
     }
-    text(b"\n");
+    text(rt, b"\n");
 }

@@ -24,51 +24,66 @@ fn command_bytes(limited: bool) -> [u8; 80] {
     area
 }
 
-fn formats() {
-    text(b"Propose\n");
-    rows(bytes_of(propose(), 170), 53);
-    text(b"Ack\n");
-    rows(bytes_of(ack(), 170), 20);
-    text(b"Decide\n");
-    rows(bytes_of(decide(), 170), 53);
-    text(b"Estimate\n");
-    rows(bytes_of(estimate(), 170), 53);
-    text(b"Command, and a byte after it that held aa\n");
-    rows(command_bytes(false), 17);
-    text(b"Command that is marked, and a byte after it that held aa\n");
-    rows(command_bytes(true), 17);
+fn formats(rt: &impl Print) {
+    text(rt, b"Propose\n");
+    rows(rt, bytes_of(propose(), 170), 53);
+    text(rt, b"Ack\n");
+    rows(rt, bytes_of(ack(), 170), 20);
+    text(rt, b"Decide\n");
+    rows(rt, bytes_of(decide(), 170), 53);
+    text(rt, b"Estimate\n");
+    rows(rt, bytes_of(estimate(), 170), 53);
+    text(rt, b"Command, and a byte after it that held aa\n");
+    rows(rt, command_bytes(false), 17);
+    text(
+        rt,
+        b"Command that is marked, and a byte after it that held aa\n",
+    );
+    rows(rt, command_bytes(true), 17);
 }
 
-fn damaged() {
-    text(b"Propose, each byte raised by 1: 8 refused, = read and written back the same\n");
-    damage(bytes_of(propose(), 0), 53);
-    text(b"Ack, each byte raised by 1\n");
-    damage(bytes_of(ack(), 0), 20);
-    text(b"Propose cut short or followed by 00, at lengths 0 to 80\n");
-    lengths(bytes_of(propose(), 0));
-    text(b"Ack cut short or followed by 00, at lengths 0 to 80\n");
-    lengths(bytes_of(ack(), 0));
+fn damaged(rt: &impl Print) {
+    text(
+        rt,
+        b"Propose, each byte raised by 1: 8 refused, = read and written back the same\n",
+    );
+    damage(rt, bytes_of(propose(), 0), 53);
+    text(rt, b"Ack, each byte raised by 1\n");
+    damage(rt, bytes_of(ack(), 0), 20);
+    text(
+        rt,
+        b"Propose cut short or followed by 00, at lengths 0 to 80\n",
+    );
+    lengths(rt, bytes_of(propose(), 0));
+    text(rt, b"Ack cut short or followed by 00, at lengths 0 to 80\n");
+    lengths(rt, bytes_of(ack(), 0));
     number_line(
+        rt,
         b"Propose of 52 bytes: ",
         reading(4, 2, bytes_of(propose(), 0), 52),
     );
     number_line(
+        rt,
         b"Propose of 53 bytes: ",
         reading(4, 2, bytes_of(propose(), 0), 53),
     );
     number_line(
+        rt,
         b"Propose of 53 bytes, n = 0: ",
         reading(0, 2, bytes_of(propose(), 0), 53),
     );
     number_line(
+        rt,
         b"Propose of 53 bytes, n = 7: ",
         reading(7, 2, bytes_of(propose(), 0), 53),
     );
     number_line(
+        rt,
         b"Propose of 53 bytes, m = 0: ",
         reading(4, 0, bytes_of(propose(), 0), 53),
     );
     number_line(
+        rt,
         b"Propose of 53 bytes, m = 5: ",
         reading(4, 5, bytes_of(propose(), 0), 53),
     );
@@ -94,29 +109,29 @@ fn command_to_23(p: usize) -> Written {
     frame::write_command(p, 1, [1i32, 2, 3, 4], false, &mut area)
 }
 
-fn written(label: &[u8], w: Written) {
+fn written(rt: &impl Print, label: &[u8], w: Written) {
     let answer = w.answer;
-    written_line(label, frame::number_of(answer), w.length);
+    written_line(rt, label, frame::number_of(answer), w.length);
 }
 
-fn writes() {
-    text(b"Writing: answer and length\n");
-    written(b"  Propose to 69 bytes: ", to_69(4, propose()));
-    written(b"  Propose to 68 bytes: ", to_68(4, propose()));
-    written(b"  Ack to 68 bytes: ", to_68(4, ack()));
-    written(b"  n = 7, to 68 bytes: ", to_68(7, propose()));
-    written(b"  kind 5: ", to_69(4, fifth_kind()));
-    written(b"  a mark at m: ", to_69(4, mark_beyond()));
-    written(b"  a value that is absent: ", to_69(4, absent_value()));
-    written(b"  command, p = 0: ", command_to_24(0));
-    written(b"  command, p = 1: ", command_to_24(1));
-    written(b"  command, p = 4: ", command_to_24(4));
-    written(b"  command, p = 5, to 23 bytes: ", command_to_23(5));
-    written(b"  command, p = 1, to 23 bytes: ", command_to_23(1));
+fn writes(rt: &impl Print) {
+    text(rt, b"Writing: answer and length\n");
+    written(rt, b"  Propose to 69 bytes: ", to_69(4, propose()));
+    written(rt, b"  Propose to 68 bytes: ", to_68(4, propose()));
+    written(rt, b"  Ack to 68 bytes: ", to_68(4, ack()));
+    written(rt, b"  n = 7, to 68 bytes: ", to_68(7, propose()));
+    written(rt, b"  kind 5: ", to_69(4, fifth_kind()));
+    written(rt, b"  a mark at m: ", to_69(4, mark_beyond()));
+    written(rt, b"  a value that is absent: ", to_69(4, absent_value()));
+    written(rt, b"  command, p = 0: ", command_to_24(0));
+    written(rt, b"  command, p = 1: ", command_to_24(1));
+    written(rt, b"  command, p = 4: ", command_to_24(4));
+    written(rt, b"  command, p = 5, to 23 bytes: ", command_to_23(5));
+    written(rt, b"  command, p = 1, to 23 bytes: ", command_to_23(1));
 }
 
-fn main() {
-    formats();
-    damaged();
-    writes();
+fn main(rt: HostRuntime) {
+    formats(&rt);
+    damaged(&rt);
+    writes(&rt);
 }

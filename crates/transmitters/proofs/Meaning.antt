@@ -1,7 +1,7 @@
 -- The theorem: in the toolchain's account of IEEE 754, a finite single is converted to the floor of 65536 times the number that it is, an infinity
 -- and a NaN are missing, and 32 bits are converted as the single that they stand for. Assumes nothing.
 use mathlib.Core.Path.{◌≡◌, refl, sym, ap, ◌∙◌, subst}
-use mathlib.Core.Bool.{Bool, true, false, not, ◌&&◌, cond}
+use mathlib.Core.Bool.{Bool, true, false, not, cond}
 use Prim.Native.Nat.{ℕ, zero, suc, ◌+◌, ◌-◌, ◌*◌, ◌^◌, ◌<◌}
 use native.Mathlib.Nat as NatL
 use native.Mathlib.Omega.{arith}

@@ -1,21 +1,19 @@
 // Parts of a line.
-use libc::STDOUT_FILENO;
-
-pub(crate) fn text(s: &[u8]) {
-    io::write_all(STDOUT_FILENO, s);
+pub(crate) fn text(rt: &impl Print, s: &[u8]) {
+    let _ = rt.write_all(s);
 }
 
-pub(crate) fn number(n: u64) {
-    io::print_decimal(STDOUT_FILENO, n);
+pub(crate) fn number(rt: &impl Print, n: u64) {
+    let _ = print!(rt; "{n}");
 }
 
 // `ok`, or `r` and the number of a refusal, at the end of a line.
-pub(crate) fn answer(refusal: u8) {
+pub(crate) fn answer(rt: &impl Print, refusal: u8) {
     if refusal == 0 {
-        text(b"ok\n");
+        text(rt, b"ok\n");
     } else {
-        text(b"r");
-        number(refusal as u64);
-        text(b"\n");
+        text(rt, b"r");
+        number(rt, refusal as u64);
+        text(rt, b"\n");
     }
 }

@@ -8,8 +8,7 @@ use crate::answers::frame_number;
 use crate::areas::mark_byte;
 
 // Reads a command of p values.
-#[unsafe(no_mangle)]
-pub extern "C" fn winder_read_command(
+pub fn winder_read_command(
     p: usize,
     bytes: &[u8],
     period: &mut u32,

@@ -10,8 +10,7 @@ use crate::answers::frame_number;
 use crate::areas::{frame_of, marks_of};
 
 // Reads a frame of n states and m readings.
-#[unsafe(no_mangle)]
-pub extern "C" fn winder_read_frame(
+pub fn winder_read_frame(
     n: usize,
     m: usize,
     bytes: &[u8],
@@ -48,8 +47,7 @@ pub extern "C" fn winder_read_frame(
 }
 
 // Writes a frame of n states and m readings to the start of an area.
-#[unsafe(no_mangle)]
-pub extern "C" fn winder_write_frame(
+pub fn winder_write_frame(
     n: usize,
     m: usize,
     kind_and_sender: &[u8; 2],

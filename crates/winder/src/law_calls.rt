@@ -8,8 +8,7 @@ use crate::answers::law_number;
 use crate::areas::{mark_byte, readings_of};
 
 // The state after one period with these readings, and whether clamping changed a value.
-#[unsafe(no_mangle)]
-pub extern "C" fn winder_update<'a>(
+pub fn winder_update<'a>(
     n: usize,
     m: usize,
     p: usize,
@@ -42,8 +41,7 @@ pub extern "C" fn winder_update<'a>(
 }
 
 // The commands of a state, and whether their limits changed one.
-#[unsafe(no_mangle)]
-pub extern "C" fn winder_command<'a>(
+pub fn winder_command<'a>(
     n: usize,
     m: usize,
     p: usize,

@@ -1,4 +1,5 @@
-// The law, the frames, the conversion of readings, the shift page and the replica for C programs. include/winder.h declares the functions.
+// The law, the frames, the conversion of readings, the shift page and the replica for C programs, on numbers and areas. Crate winder_c exports the
+// functions that include/winder.h declares.
 #![tactic(auto)]
 
 pub mod answers;

@@ -8,13 +8,7 @@ ghost use Rattle.winder.specs.PageAreas.{length_after};
 use crate::answers::page_number;
 
 // Writes the page of these entries, of p commands each, to the start of an area. An entry takes seven words.
-#[unsafe(no_mangle)]
-pub extern "C" fn winder_write_page(
-    p: usize,
-    entries: &[u32],
-    area: &mut [u8],
-    length: &mut usize,
-) -> u32
+pub fn winder_write_page(p: usize, entries: &[u32], area: &mut [u8], length: &mut usize) -> u32
     ensures answer { result ≡ write_refusal p (entries_of entries.now) area.old }
     ensures area { area.new ≡ over (written p (entries_of entries.now) area.old) area.old }
     ensures length { length.new ≡ length_after p (entries_of entries.now) area.old length.old }

@@ -6,8 +6,7 @@ ghost use Rattle.transmitters.specs.Conversion.{converted_single};
 use crate::areas::mark_byte;
 
 // The single of these bits, in newtons, as the law reads it: its present mark, and its count, 0 where it is missing. Refuses nothing.
-#[unsafe(no_mangle)]
-pub extern "C" fn winder_convert_single(bits: u32, value: &mut i32) -> u8
+pub fn winder_convert_single(bits: u32, value: &mut i32) -> u8
     ensures mark { result ≡ bit (converted_single bits).present }
     ensures value { value.new ≡ (converted_single bits).value }
 {

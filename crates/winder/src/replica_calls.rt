@@ -77,8 +77,7 @@ fn settings_of(
 }
 
 // Makes a fresh replica.
-#[unsafe(no_mangle)]
-pub extern "C" fn winder_make(
+pub fn winder_make(
     n: usize,
     m: usize,
     p: usize,
@@ -127,8 +126,7 @@ fn leave(given: Given, replica: &mut [u8], lengths: &mut [usize; 2]) -> u32
 }
 
 // A tick with readings, each by its kind and its bits.
-#[unsafe(no_mangle)]
-pub extern "C" fn winder_tick(
+pub fn winder_tick(
     replica: &mut [u8],
     kinds: &[u8; 4],
     bits: &[u32; 4],
@@ -189,8 +187,7 @@ pub extern "C" fn winder_tick(
 }
 
 // The view is given up.
-#[unsafe(no_mangle)]
-pub extern "C" fn winder_give_up(
+pub fn winder_give_up(
     replica: &mut [u8],
     frame: &mut [u8],
     command: &mut [u8],
@@ -235,8 +232,7 @@ pub extern "C" fn winder_give_up(
 }
 
 // Bytes that arrive as a frame.
-#[unsafe(no_mangle)]
-pub extern "C" fn winder_arrive(
+pub fn winder_arrive(
     replica: &mut [u8],
     bytes: &[u8],
     frame: &mut [u8],

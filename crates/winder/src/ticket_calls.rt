@@ -13,8 +13,7 @@ use crate::answers::replica_number;
 use ticketed::{Asked, Stepped};
 
 // Writes the record of a replica that was made or returned to the start of an area, with its tickets behind it: none was given.
-#[unsafe(no_mangle)]
-pub extern "C" fn winder_tickets(replica: &[u8], area: &mut [u8]) -> u32
+pub fn winder_tickets(replica: &[u8], area: &mut [u8]) -> u32
     ensures answer { result ≡ tickets_refusal replica.now (length area.old) }
     ensures area { area.new ≡ over (with_tickets replica.now (length area.old)) area.old }
 {
@@ -34,8 +33,7 @@ fn leave_ask(asked: Asked, lengths: &mut [usize; 2], ticket: &mut [u64; 1]) -> u
 }
 
 // Asks a tick with readings, each by its kind and its bits.
-#[unsafe(no_mangle)]
-pub extern "C" fn winder_ask_tick(
+pub fn winder_ask_tick(
     replica: &mut [u8],
     kinds: &[u8; 4],
     bits: &[u32; 4],
@@ -54,8 +52,7 @@ pub extern "C" fn winder_ask_tick(
 }
 
 // Asks to give up the view.
-#[unsafe(no_mangle)]
-pub extern "C" fn winder_ask_give_up(
+pub fn winder_ask_give_up(
     replica: &mut [u8],
     area: &mut [u8],
     frame: &mut [u8],
@@ -72,8 +69,7 @@ pub extern "C" fn winder_ask_give_up(
 }
 
 // Asks for bytes that arrive as a frame.
-#[unsafe(no_mangle)]
-pub extern "C" fn winder_ask_arrive(
+pub fn winder_ask_arrive(
     replica: &mut [u8],
     bytes: &[u8],
     area: &mut [u8],
@@ -91,8 +87,7 @@ pub extern "C" fn winder_ask_arrive(
 }
 
 // Commits a ticket: the step that its ask was for is made.
-#[unsafe(no_mangle)]
-pub extern "C" fn winder_commit(replica: &mut [u8], ticket: u64) -> u32
+pub fn winder_commit(replica: &mut [u8], ticket: u64) -> u32
     ensures answer { result ≡ committing_refusal replica.old ticket }
     ensures replica { replica.new ≡ committing replica.old ticket }
 {
@@ -110,8 +105,7 @@ fn leave_step(stepped: Stepped, lengths: &mut [usize; 2]) -> u32
 }
 
 // A tick without an ask.
-#[unsafe(no_mangle)]
-pub extern "C" fn winder_ticketed_tick(
+pub fn winder_ticketed_tick(
     replica: &mut [u8],
     kinds: &[u8; 4],
     bits: &[u32; 4],
@@ -128,8 +122,7 @@ pub extern "C" fn winder_ticketed_tick(
 }
 
 // The view is given up without an ask.
-#[unsafe(no_mangle)]
-pub extern "C" fn winder_ticketed_give_up(
+pub fn winder_ticketed_give_up(
     replica: &mut [u8],
     frame: &mut [u8],
     command: &mut [u8],
@@ -144,8 +137,7 @@ pub extern "C" fn winder_ticketed_give_up(
 }
 
 // Bytes that arrive as a frame, without an ask.
-#[unsafe(no_mangle)]
-pub extern "C" fn winder_ticketed_arrive(
+pub fn winder_ticketed_arrive(
     replica: &mut [u8],
     bytes: &[u8],
     frame: &mut [u8],

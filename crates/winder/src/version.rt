@@ -3,8 +3,7 @@ ghost use Rattle.std.specs.Prelude.{◌≡◌};
 ghost use Rattle.winder.specs.Version.{version};
 
 // Major version times 100, and minor version.
-#[unsafe(no_mangle)]
-pub extern "C" fn winder_version() -> u32
+pub fn winder_version() -> u32
     ensures { result ≡ version }
 {
     300

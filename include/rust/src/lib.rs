@@ -1,4 +1,4 @@
-//! The calls of `include/winder.h`, which says what each of them does, over the archive that `rt staticlib winder` makes.
+//! The calls of `include/winder.h`, which says what each of them does, over the archive that `bash tools/build winder` makes.
 //!
 //! Every function here is safe. What the header asks of a caller in C the types give: no reference is null, each area has its length, and an
 //! area that a call writes overlaps no other area of that call.

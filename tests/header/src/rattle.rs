@@ -10,11 +10,11 @@ pub fn exported(source: &str) -> Result<Vec<Function>, String> {
     let mut words = Words::of(&without_comments(source));
     let mut functions = Vec::new();
     while !words.is_empty() {
-        if words.take(&["#", "[", "no_mangle", "]"]) {
+        if words.take(&["#", "[", "unsafe", "(", "no_mangle", ")", "]"]) {
             words.expect(&["pub", "extern", "\"", "C", "\"", "fn"])?;
             functions.push(function(&mut words)?);
         } else if words.take(&["extern"]) {
-            return Err("extern without #[no_mangle]".to_string());
+            return Err("extern without #[unsafe(no_mangle)]".to_string());
         } else {
             words.next();
         }

@@ -1,4 +1,4 @@
-//! include/winder.h and include/rust declare what crate winder exports, and a
+//! include/winder.h and include/rust declare what crate winder_c exports, and a
 //! header that is changed in any one way is found.
 
 use header::{declared, differences, exported, imported, wrapper_differences, Function};
@@ -20,7 +20,7 @@ fn header() -> String {
 /// The functions that the crate's files export.
 fn exports() -> Vec<Function> {
     let mut functions = Vec::new();
-    for entry in fs::read_dir(path("crates/winder/src")).expect("the crate's folder") {
+    for entry in fs::read_dir(path("crates/winder_c/src")).expect("the crate's folder") {
         let path = entry.expect("a file of the crate").path();
         let source = fs::read_to_string(&path).expect("a file of the crate");
         functions.extend(exported(&source).unwrap_or_else(|error| panic!("{path:?}: {error}")));
@@ -505,13 +505,13 @@ fn what_is_no_prototype_is_refused() {
 fn what_is_no_export_is_refused() {
     for text in [
         "pub extern \"C\" fn f(n: usize) -> u32 { 0 }",
-        "#[no_mangle] fn f(n: usize) -> u32 { 0 }",
-        "#[no_mangle] pub extern \"C\" fn f(n: usize) { }",
-        "#[no_mangle] pub extern \"C\" fn f(n: bool) -> u32 { 0 }",
-        "#[no_mangle] pub extern \"C\" fn f(s: Settings) -> u32 { 0 }",
+        "#[unsafe(no_mangle)] fn f(n: usize) -> u32 { 0 }",
+        "#[unsafe(no_mangle)] pub extern \"C\" fn f(n: usize) { }",
+        "#[unsafe(no_mangle)] pub extern \"C\" fn f(n: bool) -> u32 { 0 }",
+        "#[unsafe(no_mangle)] pub extern \"C\" fn f(s: Settings) -> u32 { 0 }",
     ] {
         assert!(exported(text).is_err(), "{text}");
     }
-    let comment = "// #[no_mangle]\nfn f(n: usize) -> u32 { 0 }";
+    let comment = "// #[unsafe(no_mangle)]\nfn f(n: usize) -> u32 { 0 }";
     assert_eq!(exported(comment), Ok(Vec::new()));
 }

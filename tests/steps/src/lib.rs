@@ -1,4 +1,4 @@
-//! The calls of crate steps, over the archive that `rt staticlib steps` makes: a replica's making and its steps on areas of numbers, and
+//! The calls of crate steps, over the archive that `bash tools/build steps` makes: a replica's making and its steps on areas of numbers, and
 //! reading a shift page, for the comparison of the two implementations alone. Every function here is safe.
 
 mod declarations;

@@ -22,12 +22,10 @@ use Rattle.octets.proofs.TwosComplement.{as-to_z}
 use Rattle.text.specs.Printing.{decimal}
 use Rattle.pages.specs.Line.{right, command_columns, hyphen, commands_shown, line_text, to_the_end, line_bytes, line_length}
 use Rattle.pages.specs.Page.{standing, placed, on_page, rises, page_bytes}
-use Rattle.pages.specs.Reading.{entry_in, lines_in, same}
+use Rattle.pages.specs.Reading.{entry_in, lines_in}
 use Rattle.pages.proofs.LineLaws.{line-length}
 use Rattle.pages.proofs.LineReading.{line_reads}
 use Rattle.pages.proofs.PlacingLaws.{Order, lower, equal, higher, order, placed-lower, placed-equal, placed-higher, rises-head, rises-tail, rises-cons}
-use Rattle.pages.proofs.ReadingLaws as Reading
-use Rattle.pages.proofs.WritingLaws as Writing
 
 -- ---- the entries that stand on a page
 

@@ -1,0 +1,13 @@
+-- `fields::one_less` meets its contract. Assumes nothing.
+use borrow.Author.Tests.{eq-eqb, ne_eqb}
+use Rattle.lists.specs.Choice.{pick}
+use Rattle.line.specs.Fields.{one_less}
+use Rattle.line.proofs.fields.one_less.Goals as goal
+
+pub returns-then-b-eq32 : goal.returns-then-b-eq32
+unfolding one_less pick
+returns-then-b-eq32 c = simp (eq-eqb _ _ c.if-b-eq32.true)
+
+pub returns-else-b-eq32 : goal.returns-else-b-eq32
+unfolding one_less pick
+returns-else-b-eq32 c = simp (ne_eqb _ _ c.if-b-eq32.false)

@@ -1,0 +1,9 @@
+-- `columns::put_right` meets its contract. Assumes nothing.
+use Rattle.text.proofs.PrintingLaws.{then-puts}
+use Rattle.pages.specs.Line.{right}
+use Rattle.pages.proofs.columns.put_right.Goals as goal
+
+pub returns : goal.returns
+unfolding right
+returns c =
+    then-puts (rw c.columns_left.ensures at c.put_spaces-at.ensures) c.put_word.ensures

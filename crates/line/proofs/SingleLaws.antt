@@ -62,9 +62,9 @@ unfoldable pub read_from : ℕ → List ℕ → Reading
 read_from high digits = pick (all_hex digits) (Newtons (of_bits binary32 (hex_from high digits))) Missing
 
 module _ (word : List ℕ) where
-  pub not-nine : (length word ≡ 9 → ⊥) → single_in word ≡ Missing
+  pub not_nine : (length word ≡ 9 → ⊥) → single_in word ≡ Missing
   unfolding single_in is_single
-  not-nine n = pick-false _ _ _ (rw (ne_eqb (length word) 9 n))
+  not_nine n = pick-false _ _ _ (rw (ne_eqb (length word) 9 n))
 
   pub not_f : (get_or word 0 0 ≡ 102 → ⊥) → single_in word ≡ Missing
   unfolding single_in is_single

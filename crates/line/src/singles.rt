@@ -5,6 +5,7 @@ ghost use Rattle.line.specs.Singles.{is_hex, hex_digit, single_in};
 use transmitters::Reading;
 use transmitters::numbers::single_of;
 
+#[tactic(auto, unfolding(crate::specs::Singles::is_hex, text::specs::Numbers::is_digit))]
 fn is_hex(b: u8) -> bool
     ensures { result ≡ is_hex b }
 {
@@ -40,6 +41,7 @@ fn with_digit(high: u32, b: u8) -> u32
 }
 
 // The single that a field is; missing where it is none.
+#[tactic(auto, using(crate::proofs::SingleLaws::not_nine))]
 pub(crate) fn single_in(word: &[u8]) -> Reading
     ensures { result ≡ single_in word.now }
 {

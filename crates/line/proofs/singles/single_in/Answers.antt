@@ -3,18 +3,16 @@
 use mathlib.Core.Path.{◌≡◌, sym, ap, ◌∙◌}
 use Prim.Native.Nat.{◌+◌, ◌-◌}
 use native.Mathlib.Omega.{arith}
+use lib.ListN.{length}
 use Rattle.transmitters.specs.declared.Reading.TheVariants.{Newtons}
-use Rattle.line.proofs.SingleLaws.{hex, digit-more, seven-digits, not-nine, not_f, read_first, read_more, read-stops, read-ends}
+use Rattle.line.proofs.SingleLaws.{hex, digit-more, seven-digits, not_f, read_first, read_more, read-stops, read-ends}
 use Rattle.line.proofs.singles.single_in.Goals as goal
-
-pub returns-then-word-ne9 : goal.returns-then-word-ne9
-returns-then-word-ne9 c = sym (not-nine c.args.word.now c.if-word-ne9.true)
 
 pub returns-then-word-ne102 : goal.returns-then-word-ne102
 returns-then-word-ne102 c = sym (not_f _ c.if-word-ne102.true)
 
 pub loop-i-init : goal.loop-i-init
-loop-i-init c = let n = c.if-word-ne9.false in (n, omega arith, omega arith, omega arith, read_first _ n c.if-word-ne102.false)
+loop-i-init c = let n : length c.args.word.now ≡ 9 = omega arith in (n, omega arith, omega arith, omega arith, read_first _ n c.if-word-ne102.false)
 
 pub returns-then-not-is_hex : goal.returns-then-not-is_hex
 returns-then-not-is_hex c =

@@ -21,6 +21,7 @@ pub fn coordinator(n: u8, view: u32) -> u8
 }
 
 // Whether the first of two estimates, each by its base view, base period and box, is the better.
+#[tactic(auto, unfolding(crate::specs::Quorum::beats))]
 pub fn beats(
     base_view: u32,
     base_period: u32,

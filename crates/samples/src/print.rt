@@ -8,6 +8,10 @@ pub(crate) fn letter(rt: &impl Print, c: u8) {
     let _ = rt.write_all(&s);
 }
 
+fn wide(x: u8) -> u64 {
+    x as u64
+}
+
 // The bytes from `from` to `to` as a line, or nothing where there are none.
 fn row(rt: &impl Print, bytes: &[u8], from: usize, to: usize) {
     if to <= from {
@@ -18,8 +22,7 @@ fn row(rt: &impl Print, bytes: &[u8], from: usize, to: usize) {
     while i < to {
         if i < bytes.len() {
             text(rt, b" ");
-            let byte = bytes[i];
-            let _ = print!(rt; "{byte:02x}");
+            let _ = print!(rt; "{:02x}", wide(bytes[i]));
         }
         i += 1;
     }
@@ -40,14 +43,14 @@ pub(crate) fn rows(rt: &impl Print, bytes: [u8; 80], length: usize) {
 
 pub(crate) fn number_line(rt: &impl Print, label: &[u8], x: u8) {
     text(rt, label);
-    let _ = print!(rt; "{x}");
+    let _ = print!(rt; "{}", wide(x));
     text(rt, b"\n");
 }
 
 // An answer's number, and the length that was written.
 pub(crate) fn written_line(rt: &impl Print, label: &[u8], answer: u8, length: usize) {
     text(rt, label);
-    let _ = print!(rt; "{answer}");
+    let _ = print!(rt; "{}", wide(answer));
     text(rt, b" ");
     let _ = print!(rt; "{length}");
     text(rt, b"\n");

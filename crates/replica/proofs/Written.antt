@@ -44,9 +44,9 @@ frame_is n m f area sized kind room =
     (normalised-well-formed m (as_carried m f) (sized-m n m sized) kind (normalised-twice m f.estimate.readings)))
 
 -- each kind is in the frames' table
-pub kind_ok : (kind : Kind) → kind_ok (kind_number kind) ≡ true
+pub kind_ok-number : (kind : Kind) → kind_ok (kind_number kind) ≡ true
 unfolding kind_ok any_of
-kind_ok Kind.Propose = refl
-kind_ok Kind.Ack = refl
-kind_ok Kind.Decide = refl
-kind_ok Kind.Estimate = refl
+kind_ok-number Kind.Propose = refl
+kind_ok-number Kind.Ack = refl
+kind_ok-number Kind.Decide = refl
+kind_ok-number Kind.Estimate = refl

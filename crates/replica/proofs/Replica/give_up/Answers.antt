@@ -1,0 +1,13 @@
+-- `give_up` meets its contract. Assumes nothing.
+use lib.ListN.{length}
+use Rattle.replica.proofs.Gives.{gives-done}
+use Rattle.replica.proofs.Lent.{give-up-outcome-lent}
+use borrow.Author.Rules.{rules}
+use Rattle.replica.proofs.Replica.give_up.Goals as goal
+
+pub returns : goal.returns
+returns c =
+    let a = c.before.before.before.before.before.before.before.before.before.before.before.before.before.before.before.before.args in
+    rw c.step_of_lem.ensures
+    (gives-done a.t1.settings
+    (rw (give-up-outcome-lent a.t1 (length a.frame.now) (length a.command.now)) at (c.give_up-given.ensures a.command.now)))

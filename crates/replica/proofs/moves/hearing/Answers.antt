@@ -1,0 +1,6 @@
+-- `hearing` meets its contract. Assumes nothing.
+use borrow.Author.Rules.{rules}
+use Rattle.replica.proofs.moves.hearing.Goals as goal
+
+pub returns : goal.returns
+returns c = rw c.with_box-heard.ensures

@@ -30,4 +30,4 @@ returns c =
     let w = c.write-written.ensures in
     let is = ap (λ (y : Readings). written c.args.n c.args.m (with f y) area) c.normalise-carried.ensures
     ∙ frame_is c.args.n c.args.m f area c.requires.0 c.requires.1 c.requires.2 in
-    (w.1.0 ∙ ap length is, w.1.1 ∙ ap (λ (b : List ℕ). over b area) is)
+    (w.count ∙ ap length is, w.bytes ∙ ap (λ (b : List ℕ). over b area) is)

@@ -1,5 +1,4 @@
 -- `issue` meets its contract. Assumes nothing.
-use borrow.Author.Tests.{not-true, not-false}
 use mathlib.Core.Path.{refl, ap, ◌∙◌}
 use mathlib.Core.List.{List}
 use Prim.Native.Nat.{ℕ}
@@ -16,14 +15,14 @@ use Rattle.replica.proofs.output.issue.Goals as goal
 
 pub returns-then-not-issues : goal.returns-then-not-issues
 unfolding pick
-returns-then-not-issues c = rw (not-true c.args.issues c.if-not-issues.true) (refl, refl)
+returns-then-not-issues c = rw c.if-not-issues.true (refl, refl)
 
 pub returns : goal.returns
 unfolding pick
 returns c =
-    let a = c.before.before.before.before.before.before.before.before.before.before.before.before.args in
+    let a = c.args in
     let w = c.write_command-written.ensures in
     let law = settings_of a.n a.m a.p a.a.now a.l.now a.c.now a.k.now a.low.now a.high.now in
-    let is = command-is a.p a.held.period _ _ a.area.now (command-sizes law c.before.before.before.before.before.before.before.before.before.before.before.before.requires.0) c.before.before.before.before.before.before.before.before.before.before.before.before.requires.1
+    let is = command-is a.p a.held.period _ _ a.area.now (command-sizes law c.requires.0) c.requires.1
     ∙ ap (λ (m : Marked). command_bytes a.p a.held.period m.commands m.limited) c.issued-issued.ensures in
-    rw (not-false a.issues c.if1.false) (w.1.0 ∙ ap length is, w.1.1 ∙ ap (λ (b : List ℕ). over b a.area.now) is)
+    rw c.if-not-issues.false (w.count ∙ ap length is, w.bytes ∙ ap (λ (b : List ℕ). over b a.area.now) is)

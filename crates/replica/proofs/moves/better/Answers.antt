@@ -43,4 +43,4 @@ pub returns : goal.returns
 returns c =
     ap best_of
     (sym (keeps (best_in c.args.b) (best_in c.args.c)
-    (c.if-not-b.false) (sym c.beats.ensures ∙ c.if-beats.false)))
+    (not-false c.args.b.any c.if-not-b.false) (sym c.beats.ensures ∙ c.if-beats.false)))

@@ -12,7 +12,7 @@ returns-then-number-ne0 c =
     let s = c.args.settings in
     let e = c.settings_refusal-number.ensures s.law c.check.ensures in
     let m = made-refused s (λ z. c.if-number-ne0.true (e ∙ z)) in
-    (ap Refused e ∙ sym m.0, c.blank-replica.ensures ∙ sym m.1)
+    record { answer = ap Refused e ∙ sym m.0; replica = c.blank-replica.ensures ∙ sym m.1 }
 
 pub fresh-replica-requires : goal.fresh-replica-requires
 fresh-replica-requires c =
@@ -23,4 +23,4 @@ pub returns : goal.returns
 returns c =
     let s = c.args.settings in
     let m = made-done s (sym (c.settings_refusal-number.ensures s.law c.check.ensures) ∙ c.if-number-ne0.false) in
-    (sym m.0, c.fresh-replica.ensures ∙ sym m.1)
+    record { answer = sym m.0; replica = c.fresh-replica.ensures ∙ sym m.1 }

@@ -12,7 +12,7 @@ unfolding arrival
 returns-then-number_of-ne0 c =
     λ law.
     let a = c.args in
-    let e = c.number_of.ensures ∙ c.read-parsed.ensures.0 in
+    let e = c.number_of.ensures ∙ c.read-parsed.ensures.answer in
     rw (found_none a.member.n a.member.m a.bytes.now (ne_eqb _ 0 (λ z. c.if-number_of-ne0.true (e ∙ z))))
     (rw c.refused_rule.ensures (says-refused _ _ _ _ 8))
 
@@ -23,5 +23,5 @@ returns c =
     let a = c.args in
     let found = c.read-parsed.ensures in
     let done = eq-eqb _ 0 (sym
-    (c.number_of.ensures ∙ found.0) ∙ c.if-number_of-ne0.false) in
-    rw (found_some a.member.n a.member.m a.bytes.now done) (rw found.1 at (c.arrive_frame.ensures law))
+    (c.number_of.ensures ∙ found.answer) ∙ c.if-number_of-ne0.false) in
+    rw (found_some a.member.n a.member.m a.bytes.now done) (rw found.frame at (c.arrive_frame.ensures law))

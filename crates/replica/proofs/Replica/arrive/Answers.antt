@@ -7,7 +7,7 @@ use Rattle.replica.proofs.Replica.arrive.Goals as goal
 
 pub returns : goal.returns
 returns c =
-    let a = c.before.before.before.before.before.before.before.before.before.before.before.before.before.before.before.before.before.before.before.before.args in
-    rw c.step_of_lem.ensures
-    (gives-done a.t1.settings
-    (rw (arrive-outcome-lent a.t1 (length a.frame.now) (length a.command.now) _) at c.arrive-given.ensures))
+    let a = c.args in
+    rw c.step_of.ensures
+    (gives-done a.self.settings
+    (rw (arrive-outcome-lent a.self (length a.frame.now) (length a.command.now) _) at c.arrive-given.ensures))

@@ -7,7 +7,7 @@ use Rattle.replica.proofs.Replica.give_up.Goals as goal
 
 pub returns : goal.returns
 returns c =
-    let a = c.before.before.before.before.before.before.before.before.before.before.before.before.before.before.before.before.args in
-    rw c.step_of_lem.ensures
-    (gives-done a.t1.settings
-    (rw (give-up-outcome-lent a.t1 (length a.frame.now) (length a.command.now)) at (c.give_up-given.ensures a.command.now)))
+    let a = c.args in
+    rw c.step_of.ensures
+    (gives-done a.self.settings
+    (rw (give-up-outcome-lent a.self (length a.frame.now) (length a.command.now)) at (c.give_up-given.ensures a.command.now)))

@@ -7,8 +7,8 @@ use Rattle.replica.proofs.Replica.tick.Goals as goal
 
 pub returns : goal.returns
 returns c =
-    let a = c.before.before.before.before.before.before.before.before.before.before.before.before.before.before.before.before.before.args in
-    rw c.step_of_lem.ensures
-    (gives-done a.t1.settings
-    (rw (tick-outcome-lent a.t1 (length a.frame.now) (length a.command.now) _, c.convert-row.ensures) at
+    let a = c.args in
+    rw c.step_of.ensures
+    (gives-done a.self.settings
+    (rw (tick-outcome-lent a.self (length a.frame.now) (length a.command.now) _, c.convert_row-converted.ensures) at
     (c.tick-given.ensures a.command.now)))

@@ -1,23 +1,18 @@
 -- `checked::arrive` meets its contract. Assumes nothing.
 use mathlib.Core.Path.{◌≡◌, sym, ◌∙◌}
-use Prim.Native.Nat.{ℕ}
 use lib.ListN.{length}
 use Rattle.law.specs.Settings.{settings_of}
 use Rattle.replica.specs.declared.Replica.{Replica}
 use Rattle.replica.specs.Calls.{step_refusal, arrive_outcome}
-use Rattle.replica.proofs.Calls.{Ready, ready}
+use Rattle.replica.proofs.Calls.{ready}
 use Rattle.replica.proofs.Gives.{checked-refuses, checked-does}
-use borrow.Author.Rules.{rules}
 use Rattle.replica.proofs.checked.arrive.Goals as goal
-use Rattle.replica.proofs.checked.arrive.Lts as lts
-use Rattle.replica.proofs.checked.arrive.Reads as reads
-use Rattle.replica.proofs.checked.arrive.Tie as tie
 
--- the replica that the caller's tables make
-abbrev given : lts.Start tie.the-claims reads.Pre reads.Post → Replica
-given s =
-    let a = s.args in
-    record {
+pub returns-then-number-ne0 : goal.returns-then-number-ne0
+unfolding arrive_outcome
+returns-then-number-ne0 c =
+    let a = c.args in
+    let given : Replica = record {
       settings = record {
         boxes = a.boxes;
         own = a.own;
@@ -25,37 +20,43 @@ given s =
         law = settings_of a.n a.m a.p a.a.now a.l.now a.c.now a.k.now a.low.now a.high.now;
       };
       held = a.held;
-    }
-
--- how the call started
-abbrev start : (c : lts.After-step_refusal tie.the-claims reads.Pre reads.Post) → lts.Start tie.the-claims reads.Pre reads.Post
-start c = c.before.before.before.before.before
-
--- the number that the look at the settings and the areas found
-abbrev found : (c : lts.After-step_refusal tie.the-claims reads.Pre reads.Post) → ℕ
-found c = let s = start c in step_refusal (given s).settings (length s.args.frame.now) (length s.args.command.now)
-
-number : (c : lts.After-step_refusal tie.the-claims reads.Pre reads.Post) → c.step_refusal-number.result ≡ found c
-number c = c.step_refusal-number.ensures (given (start c)).settings.law c.check-checked.ensures
-
-passed : (c : lts.Else1 tie.the-claims reads.Pre reads.Post) → found c.before ≡ 0
-passed c = sym (number c.before) ∙ c.if-number-ne0.false
-
-left : (c : lts.Else1 tie.the-claims reads.Pre reads.Post) → let s = start c.before in Ready (given s).settings (length s.args.frame.now) (length s.args.command.now)
-left c = ready _ _ _ (passed c)
-
-pub returns-then-number-ne0 : goal.returns-then-number-ne0
-unfolding arrive_outcome
-returns-then-number-ne0 c =
-    let s = start c.before.before in
-    rw c.refused.ensures
-    (checked-refuses (given s) (length s.args.frame.now) (length s.args.command.now) _ _ (number c.before.before) c.if-number-ne0.true)
+    } in
+    let number : c.step_refusal-number.result ≡ step_refusal given.settings (length a.frame.now) (length a.command.now) =
+      c.step_refusal-number.ensures given.settings.law c.check-checked.ensures in
+    rw c.refused.ensures (checked-refuses given (length a.frame.now) (length a.command.now) _ _ number c.if-number-ne0.true)
 
 pub arrive-requires : goal.arrive-requires
-arrive-requires c = let d = left c.before.before in (d.settings, d.frame-room, d.command-room)
+arrive-requires c =
+    let a = c.args in
+    let given : Replica = record {
+      settings = record {
+        boxes = a.boxes;
+        own = a.own;
+        quorums = a.quorums;
+        law = settings_of a.n a.m a.p a.a.now a.l.now a.c.now a.k.now a.low.now a.high.now;
+      };
+      held = a.held;
+    } in
+    let number : c.step_refusal-number.result ≡ step_refusal given.settings (length a.frame.now) (length a.command.now) =
+      c.step_refusal-number.ensures given.settings.law c.check-checked.ensures in
+    let passed = sym number ∙ c.if-number-ne0.false in
+    let d = ready given.settings (length a.frame.now) (length a.command.now) passed in
+    (d.settings, d.frame-room, d.command-room)
 
 pub returns : goal.returns
 unfolding arrive_outcome
 returns c =
-    let s = start c.before.before.before.before.before.before.before.before in
-    checked-does (given s) (length s.args.frame.now) (length s.args.command.now) _ (passed c.before.before.before.before.before.before.before) c.arrive.ensures
+    let a = c.args in
+    let given : Replica = record {
+      settings = record {
+        boxes = a.boxes;
+        own = a.own;
+        quorums = a.quorums;
+        law = settings_of a.n a.m a.p a.a.now a.l.now a.c.now a.k.now a.low.now a.high.now;
+      };
+      held = a.held;
+    } in
+    let number : c.step_refusal-number.result ≡ step_refusal given.settings (length a.frame.now) (length a.command.now) =
+      c.step_refusal-number.ensures given.settings.law c.check-checked.ensures in
+    let passed = sym number ∙ c.if-number-ne0.false in
+    checked-does given (length a.frame.now) (length a.command.now) _ passed c.arrive.ensures

@@ -18,7 +18,6 @@ use Rattle.frame.specs.Command.{command_bytes, command_written}
 use Rattle.frame.proofs.Refusals.{write_done, frame-written, command-done, command-written}
 use Rattle.frame.proofs.FrameLaws.{normalised-well-formed}
 use Rattle.scram.specs.declared.Kind.{Kind}
-use Rattle.scram.specs.declared.Kind.TheVariants as Kind
 use Rattle.replica.specs.Frames.{kind_number, as_carried}
 
 pub command-is : (p period : ℕ) (values : List ℤ) (limited : Bool) (area : List ℕ) → commands_ok p ≡ true → longest_command ≤ length area

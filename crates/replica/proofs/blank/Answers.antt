@@ -2,7 +2,6 @@
 use mathlib.Core.Path.{ap, ◌∙◌}
 use native.Mathlib.Omega.{arith}
 use Rattle.replica.specs.Calls.{fresh_of}
-use borrow.Author.Rules.{rules}
 use Rattle.replica.proofs.blank.Goals as goal
 
 pub fresh-requires : goal.fresh-requires

@@ -2,7 +2,6 @@
 use lib.ListN.{length}
 use Rattle.replica.proofs.Gives.{gives-done}
 use Rattle.replica.proofs.Lent.{arrive-outcome-lent}
-use borrow.Author.Rules.{rules}
 use Rattle.replica.proofs.Replica.arrive.Goals as goal
 
 pub returns : goal.returns

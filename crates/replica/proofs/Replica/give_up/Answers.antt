@@ -2,7 +2,6 @@
 use lib.ListN.{length}
 use Rattle.replica.proofs.Gives.{gives-done}
 use Rattle.replica.proofs.Lent.{give-up-outcome-lent}
-use borrow.Author.Rules.{rules}
 use Rattle.replica.proofs.Replica.give_up.Goals as goal
 
 pub returns : goal.returns

@@ -4,7 +4,6 @@ use Rattle.law.proofs.Laws.{sizes-accepted}
 use Rattle.scram.specs.Answers.{Refused}
 use Rattle.replica.proofs.Accepted.{accepted}
 use Rattle.replica.proofs.Calls.{made-done, made-refused}
-use borrow.Author.Rules.{rules}
 use Rattle.replica.proofs.Replica.make.Goals as goal
 
 pub returns-then-number-ne0 : goal.returns-then-number-ne0

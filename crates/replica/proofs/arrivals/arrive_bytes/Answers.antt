@@ -4,7 +4,6 @@ use borrow.Author.Tests.{eq-eqb, ne_eqb}
 use Rattle.scram.specs.Events.{arrival}
 use Rattle.replica.proofs.Calls.{found_none, found_some}
 use Rattle.replica.proofs.Gives.{says-refused}
-use borrow.Author.Rules.{rules}
 use Rattle.replica.proofs.arrivals.arrive_bytes.Goals as goal
 
 pub returns-then-number_of-ne0 : goal.returns-then-number_of-ne0

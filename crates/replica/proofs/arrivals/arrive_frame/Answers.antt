@@ -6,7 +6,6 @@ use Rattle.scram.specs.declared.Kind.{Kind}
 use Rattle.scram.specs.Events.{bad_place, bad_base, arrive}
 use Rattle.replica.proofs.Accepted.{sender-place}
 use Rattle.replica.proofs.Gives.{says-refused, says-ignored, says-true, says-false}
-use borrow.Author.Rules.{rules}
 use Rattle.replica.proofs.arrivals.arrive_frame.Goals as goal
 
 -- what the tests on the place and on the base found, said of the kind of the frame

@@ -2,7 +2,6 @@
 use mathlib.Core.Path.{sym, ◌∙◌}
 use Rattle.scram.specs.Events.{hear_ack}
 use Rattle.replica.proofs.Gives.{says-done, says-true, says-false}
-use borrow.Author.Rules.{rules}
 use Rattle.replica.proofs.arrivals.hear_ack.Goals as goal
 
 pub returns-then-quorum_heard : goal.returns-then-quorum_heard

@@ -3,7 +3,6 @@ use mathlib.Core.Path.{sym, ap, ◌∙◌}
 use Rattle.scram.specs.Events.{hearing, hear_estimate}
 use Rattle.replica.specs.Held.{best_in, held_in, held_of}
 use Rattle.replica.proofs.Gives.{says-done, says-true, says-false}
-use borrow.Author.Rules.{rules}
 use Rattle.replica.proofs.arrivals.hear_estimate.Goals as goal
 
 pub returns-then-quorum_heard : goal.returns-then-quorum_heard

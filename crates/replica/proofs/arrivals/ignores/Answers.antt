@@ -2,7 +2,6 @@
 use Rattle.scram.specs.Quorum.{among}
 use Rattle.scram.specs.Events.{unwanted}
 use mathlib.Core.Path.{sym, ap, ◌∙◌}
-use borrow.Author.Rules.{rules}
 use Rattle.replica.proofs.arrivals.ignores.Goals as goal
 
 pub returns-then-idle : goal.returns-then-idle

@@ -2,7 +2,6 @@
 use mathlib.Core.Path.{ap, ◌∙◌}
 use lib.Dec.{leb}
 use Rattle.scram.specs.Quorum.{among, count}
-use borrow.Author.Rules.{rules}
 use Rattle.replica.proofs.arrivals.quorum_heard.Goals as goal
 
 pub returns : goal.returns

@@ -1,7 +1,6 @@
 -- `receive` meets its contract. Assumes nothing.
 use Rattle.scram.specs.Events.{receive}
 use Rattle.replica.proofs.Gives.{says_nothing}
-use borrow.Author.Rules.{rules}
 use Rattle.replica.proofs.arrivals.receive.Goals as goal
 
 pub returns-in-Propose : goal.returns-in-Propose

@@ -2,7 +2,6 @@
 use mathlib.Core.Path.{refl}
 use Rattle.lists.specs.Choice.{pick}
 use Rattle.scram.specs.Events.{receive}
-use borrow.Author.Rules.{rules}
 use Rattle.replica.proofs.arrivals.receive_decide.Goals as goal
 
 pub returns : goal.returns

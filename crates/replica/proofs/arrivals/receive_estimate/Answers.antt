@@ -3,7 +3,6 @@ use native.Mathlib.Omega.{arith}
 use borrow.Author.Tests.{lt-ltb, le-ltb}
 use Rattle.scram.specs.Events.{receive}
 use Rattle.replica.proofs.Gives.{says-true, says-false}
-use borrow.Author.Rules.{rules}
 use Rattle.replica.proofs.arrivals.receive_estimate.Goals as goal
 
 pub entered-requires : goal.entered-requires

@@ -13,7 +13,6 @@ use Rattle.scram.specs.Events.{receive}
 use Rattle.replica.specs.declared.Member.{Member}
 use Rattle.replica.specs.Frames.{as_carried}
 use Rattle.replica.proofs.Written.{kind_ok-number}
-use borrow.Author.Rules.{rules}
 use Rattle.replica.proofs.arrivals.receive_propose.Goals as goal
 
 -- the bytes of the Ack that goes back, with this estimate

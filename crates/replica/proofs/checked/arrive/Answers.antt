@@ -22,7 +22,7 @@ returns-then-number-ne0 c =
       held = a.held;
     } in
     let number : c.step_refusal-number.result ≡ step_refusal given.settings (length a.frame.now) (length a.command.now) =
-      c.step_refusal-number.ensures given.settings.law c.check-checked.ensures in
+    c.step_refusal-number.ensures given.settings.law c.check-checked.ensures in
     rw c.refused.ensures (checked-refuses given (length a.frame.now) (length a.command.now) _ _ number c.if-number-ne0.true)
 
 pub arrive-requires : goal.arrive-requires
@@ -38,7 +38,7 @@ arrive-requires c =
       held = a.held;
     } in
     let number : c.step_refusal-number.result ≡ step_refusal given.settings (length a.frame.now) (length a.command.now) =
-      c.step_refusal-number.ensures given.settings.law c.check-checked.ensures in
+    c.step_refusal-number.ensures given.settings.law c.check-checked.ensures in
     let passed = sym number ∙ c.if-number-ne0.false in
     let d = ready given.settings (length a.frame.now) (length a.command.now) passed in
     (d.settings, d.frame-room, d.command-room)
@@ -57,6 +57,6 @@ returns c =
       held = a.held;
     } in
     let number : c.step_refusal-number.result ≡ step_refusal given.settings (length a.frame.now) (length a.command.now) =
-      c.step_refusal-number.ensures given.settings.law c.check-checked.ensures in
+    c.step_refusal-number.ensures given.settings.law c.check-checked.ensures in
     let passed = sym number ∙ c.if-number-ne0.false in
     checked-does given (length a.frame.now) (length a.command.now) _ passed c.arrive.ensures

@@ -24,7 +24,7 @@ returns-then-number-ne0 c =
       held = a.held;
     } in
     let number : c.step_refusal-number.result ≡ step_refusal given.settings (length a.frame.now) a.command =
-      c.step_refusal-number.ensures given.settings.law c.check-checked.ensures in
+    c.step_refusal-number.ensures given.settings.law c.check-checked.ensures in
     rw c.refused.ensures (checked-refuses given (length a.frame.now) a.command _ _ number c.if-number-ne0.true)
 
 pub give_up-requires : goal.give_up-requires
@@ -40,7 +40,7 @@ give_up-requires c =
       held = a.held;
     } in
     let number : c.step_refusal-number.result ≡ step_refusal given.settings (length a.frame.now) a.command =
-      c.step_refusal-number.ensures given.settings.law c.check-checked.ensures in
+    c.step_refusal-number.ensures given.settings.law c.check-checked.ensures in
     let passed = sym number ∙ c.if-number-ne0.false in
     let d = ready given.settings (length a.frame.now) a.command passed in
     (fit _ d.settings, d.frame-room)
@@ -60,6 +60,6 @@ returns c =
       held = a.held;
     } in
     let number : c.step_refusal-number.result ≡ step_refusal given.settings (length a.frame.now) a.command =
-      c.step_refusal-number.ensures given.settings.law c.check-checked.ensures in
+    c.step_refusal-number.ensures given.settings.law c.check-checked.ensures in
     let passed = sym number ∙ c.if-number-ne0.false in
     checked-does given (length a.frame.now) a.command _ passed (c.give_up.ensures given.settings.law given.settings.law.p area)

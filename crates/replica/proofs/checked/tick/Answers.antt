@@ -23,7 +23,7 @@ returns-then-number-ne0 c =
       held = a.held;
     } in
     let number : c.step_refusal-number.result ≡ step_refusal given.settings (length a.frame.now) a.command =
-      c.step_refusal-number.ensures given.settings.law c.check-checked.ensures in
+    c.step_refusal-number.ensures given.settings.law c.check-checked.ensures in
     rw c.refused.ensures (checked-refuses given (length a.frame.now) a.command _ _ number c.if-number-ne0.true)
 
 pub tick-requires : goal.tick-requires
@@ -39,7 +39,7 @@ tick-requires c =
       held = a.held;
     } in
     let number : c.step_refusal-number.result ≡ step_refusal given.settings (length a.frame.now) a.command =
-      c.step_refusal-number.ensures given.settings.law c.check-checked.ensures in
+    c.step_refusal-number.ensures given.settings.law c.check-checked.ensures in
     let passed = sym number ∙ c.if-number-ne0.false in
     let d = ready given.settings (length a.frame.now) a.command passed in
     (d.settings, d.frame-room)
@@ -59,6 +59,6 @@ returns c =
       held = a.held;
     } in
     let number : c.step_refusal-number.result ≡ step_refusal given.settings (length a.frame.now) a.command =
-      c.step_refusal-number.ensures given.settings.law c.check-checked.ensures in
+    c.step_refusal-number.ensures given.settings.law c.check-checked.ensures in
     let passed = sym number ∙ c.if-number-ne0.false in
     checked-does given (length a.frame.now) a.command _ passed (c.tick.ensures area)

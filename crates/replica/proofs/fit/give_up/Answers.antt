@@ -2,7 +2,6 @@
 use Rattle.replica.specs.Held.{held_in}
 use Rattle.replica.proofs.Calls.{give-up-silent}
 use Rattle.replica.proofs.Gives.{does-silent}
-use borrow.Author.Rules.{rules}
 use Rattle.replica.proofs.fit.give_up.Goals as goal
 
 pub returns : goal.returns

@@ -46,7 +46,7 @@ ticked-next-requires c =
       law = settings_of a.n a.m a.p a.a.now a.l.now a.c.now a.k.now a.low.now a.high.now;
     } in
     let ticking : Ticks given.law (member_of given) a.held a.m a.readings (normalised a.m a.readings) =
-      tick-done _ _ _ _ _ _ (sym c.tick_refusal-number.ensures ∙ c.if-number-ne0.false) in
+    tick-done _ _ _ _ _ _ (sym c.tick_refusal-number.ensures ∙ c.if-number-ne0.false) in
     ticking.period
 
 pub after_tick-moved-requires : goal.after_tick-moved-requires
@@ -59,7 +59,7 @@ after_tick-moved-requires c =
       law = settings_of a.n a.m a.p a.a.now a.l.now a.c.now a.k.now a.low.now a.high.now;
     } in
     let ticking : Ticks given.law (member_of given) a.held a.m a.readings (normalised a.m a.readings) =
-      tick-done _ _ _ _ _ _ (sym c.tick_refusal-number.ensures ∙ c.if-number-ne0.false) in
+    tick-done _ _ _ _ _ _ (sym c.tick_refusal-number.ensures ∙ c.if-number-ne0.false) in
     rw (c.ticked-next.ensures given.law c.updated-state.ensures) (fit given c.requires.0, c.requires.1, ticking.view)
 
 pub returns : goal.returns
@@ -73,7 +73,7 @@ returns c =
       law = settings_of a.n a.m a.p a.a.now a.l.now a.c.now a.k.now a.low.now a.high.now;
     } in
     let ticking : Ticks given.law (member_of given) a.held a.m a.readings (normalised a.m a.readings) =
-      tick-done _ _ _ _ _ _ (sym c.tick_refusal-number.ensures ∙ c.if-number-ne0.false) in
+    tick-done _ _ _ _ _ _ (sym c.tick_refusal-number.ensures ∙ c.if-number-ne0.false) in
     let next = ticked (law_of given.law) (held_in a.held) (normalised a.m a.readings) in
     rw c.with_command.ensures
     (rw (← ticking.same)

@@ -1,5 +1,4 @@
 -- `adopting` meets its contract. Assumes nothing.
-use borrow.Author.Rules.{rules}
 use Rattle.replica.proofs.moves.adopting.Goals as goal
 
 pub returns : goal.returns

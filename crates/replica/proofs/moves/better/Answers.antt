@@ -10,7 +10,6 @@ use Rattle.scram.specs.Held as Scram
 use Rattle.replica.specs.Held.{best_in, best_of}
 use Rattle.lists.specs.Choice.{pick}
 use Rattle.scram.specs.Events.{better}
-use borrow.Author.Rules.{rules}
 use Rattle.replica.proofs.moves.better.Goals as goal
 
 or-true : (a b : Bool) → b ≡ true → (a || b) ≡ true

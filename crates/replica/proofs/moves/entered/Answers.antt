@@ -1,5 +1,4 @@
 -- `entered` meets its contract. Assumes nothing.
-use borrow.Author.Rules.{rules}
 use Rattle.replica.proofs.moves.entered.Goals as goal
 
 pub returns : goal.returns

@@ -1,5 +1,4 @@
 -- `following` meets its contract. Assumes nothing.
-use borrow.Author.Rules.{rules}
 use Rattle.replica.proofs.moves.following.Goals as goal
 
 pub returns : goal.returns

@@ -1,5 +1,4 @@
 -- `hearing` meets its contract. Assumes nothing.
-use borrow.Author.Rules.{rules}
 use Rattle.replica.proofs.moves.hearing.Goals as goal
 
 pub returns : goal.returns

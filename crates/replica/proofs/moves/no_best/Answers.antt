@@ -1,5 +1,4 @@
 -- `no_best` meets its contract. Assumes nothing.
-use borrow.Author.Rules.{rules}
 use Rattle.replica.proofs.moves.no_best.Goals as goal
 
 pub returns : goal.returns

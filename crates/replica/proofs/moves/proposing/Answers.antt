@@ -1,5 +1,4 @@
 -- `proposing` meets its contract. Assumes nothing.
-use borrow.Author.Rules.{rules}
 use Rattle.replica.proofs.moves.proposing.Goals as goal
 
 pub returns : goal.returns

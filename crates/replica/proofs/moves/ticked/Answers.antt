@@ -1,5 +1,4 @@
 -- `ticked` meets its contract. Assumes nothing.
-use borrow.Author.Rules.{rules}
 use Rattle.replica.proofs.moves.ticked.Goals as goal
 
 pub returns : goal.returns

@@ -10,7 +10,6 @@ use Rattle.law.specs.declared.Marked.{Marked}
 use Rattle.law.specs.Settings.{settings_of}
 use Rattle.replica.proofs.Accepted.{command-sizes}
 use Rattle.replica.proofs.Written.{command-is}
-use borrow.Author.Rules.{rules}
 use Rattle.replica.proofs.output.issue.Goals as goal
 
 pub returns-then-not-issues : goal.returns-then-not-issues

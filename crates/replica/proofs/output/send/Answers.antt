@@ -8,7 +8,6 @@ use Rattle.octets.specs.Areas.{over}
 use Rattle.frame.specs.declared.Frame.{Frame}
 use Rattle.frame.specs.Writing.{written}
 use Rattle.replica.proofs.Written.{frame_is}
-use borrow.Author.Rules.{rules}
 use Rattle.replica.proofs.output.send.Goals as goal
 
 -- a frame with these readings

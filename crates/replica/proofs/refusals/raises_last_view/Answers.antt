@@ -1,4 +1,3 @@
-
 use Rattle.replica.proofs.refusals.raises_last_view.Goals as goal
 
 pub returns-then-held : goal.returns-then-held

@@ -1,7 +1,6 @@
 -- `settings_refusal` meets its contract. Assumes nothing.
 use mathlib.Core.Path.{sym, ◌∙◌}
 use Rattle.replica.proofs.Accepted.{group-refused, law-refused, quorums-refused, not-refused}
-use borrow.Author.Rules.{rules}
 use Rattle.replica.proofs.refusals.settings_refusal.Goals as goal
 
 pub returns-then-bad_group : goal.returns-then-bad_group

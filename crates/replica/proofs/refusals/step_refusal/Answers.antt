@@ -3,7 +3,6 @@ use mathlib.Core.Path.{sym, ◌∙◌}
 use borrow.Author.Tests.{eq-eqb, ne_eqb}
 use Rattle.lists.specs.Choice.{pick}
 use Rattle.replica.specs.Calls.{step_refusal}
-use borrow.Author.Rules.{rules}
 use Rattle.replica.proofs.refusals.step_refusal.Goals as goal
 
 pub returns-then-number-ne0 : goal.returns-then-number-ne0

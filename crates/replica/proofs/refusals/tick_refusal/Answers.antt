@@ -3,7 +3,6 @@ use mathlib.Core.Path.{sym, ◌∙◌}
 use borrow.Author.Tests.{le-leb, lt-leb}
 use Rattle.lists.specs.Choice.{pick}
 use Rattle.replica.specs.Rules.{tick_refusal}
-use borrow.Author.Rules.{rules}
 use Rattle.replica.proofs.refusals.tick_refusal.Goals as goal
 
 pub returns-then-held-ge4294967295 : goal.returns-then-held-ge4294967295

@@ -2,7 +2,6 @@
 use mathlib.Core.Path.{refl, sym, ◌∙◌}
 use Rattle.scram.specs.Events.{after_tick}
 use Rattle.replica.proofs.Gives.{says-done, says-true, says-false}
-use borrow.Author.Rules.{rules}
 use Rattle.replica.proofs.rules.after_tick.Goals as goal
 
 pub raise-requires : goal.raise-requires

@@ -3,7 +3,6 @@ use mathlib.Core.Path.{refl}
 use Rattle.lists.specs.Choice.{pick}
 use Rattle.scram.specs.declared.Kind.TheVariants as Kind
 use Rattle.replica.proofs.Written.{kind_ok-number}
-use borrow.Author.Rules.{rules}
 use Rattle.replica.proofs.rules.follow.Goals as goal
 
 pub send-length-requires : goal.send-length-requires

@@ -3,7 +3,6 @@ use mathlib.Core.Path.{sym, ◌∙◌}
 use borrow.Author.Tests.{le-leb, lt-leb}
 use Rattle.scram.specs.Events.{give_up}
 use Rattle.replica.proofs.Gives.{says-refused, says-ignored, says-true, says-false}
-use borrow.Author.Rules.{rules}
 use Rattle.replica.proofs.rules.give_up_view.Goals as goal
 
 pub returns-then-idle : goal.returns-then-idle

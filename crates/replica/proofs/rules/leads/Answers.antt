@@ -1,7 +1,6 @@
 -- `leads` meets its contract. Assumes nothing.
 use mathlib.Core.Path.{ap}
 use lib.Dec.{eqb}
-use borrow.Author.Rules.{rules}
 use Rattle.replica.proofs.rules.leads.Goals as goal
 
 pub returns : goal.returns

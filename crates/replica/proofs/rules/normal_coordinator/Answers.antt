@@ -1,5 +1,4 @@
 -- `normal_coordinator` meets its contract. Assumes nothing.
-use borrow.Author.Rules.{rules}
 use Rattle.replica.proofs.rules.normal_coordinator.Goals as goal
 
 pub returns-then-held : goal.returns-then-held

@@ -4,7 +4,6 @@ use native.Mathlib.Omega.{arith}
 use Rattle.lists.specs.Choice.{pick}
 use Rattle.scram.specs.declared.Kind.TheVariants as Kind
 use Rattle.replica.proofs.Written.{kind_ok-number}
-use borrow.Author.Rules.{rules}
 use Rattle.replica.proofs.rules.propose.Goals as goal
 
 pub proposing-next-requires : goal.proposing-next-requires

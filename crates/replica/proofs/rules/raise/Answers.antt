@@ -3,7 +3,6 @@ use mathlib.Core.Path.{sym, ◌∙◌}
 use native.Mathlib.Omega.{arith}
 use Rattle.scram.specs.Events.{raise}
 use Rattle.replica.proofs.Gives.{says-done, says-true, says-false}
-use borrow.Author.Rules.{rules}
 use Rattle.replica.proofs.rules.raise.Goals as goal
 
 pub entered-next-requires : goal.entered-next-requires

@@ -18,7 +18,6 @@ use Rattle.frame.specs.Command.{command_bytes, command_written}
 use Rattle.frame.proofs.Refusals.{write_done, frame-written, command-done, command-written}
 use Rattle.frame.proofs.FrameLaws.{normalised-well-formed}
 use Rattle.scram.specs.declared.Kind.{Kind}
-use Rattle.scram.specs.declared.Kind.TheVariants as Kind
 use Rattle.replica.specs.Frames.{kind_number, as_carried}
 
 pub command-is : (p period : ℕ) (values : List ℤ) (limited : Bool) (area : List ℕ) → commands_ok p ≡ true → longest_command ≤ length area
@@ -44,9 +43,9 @@ frame_is n m f area sized kind room =
     (normalised-well-formed m (as_carried m f) (sized-m n m sized) kind (normalised-twice m f.estimate.readings)))
 
 -- each kind is in the frames' table
-pub kind_ok : (kind : Kind) → kind_ok (kind_number kind) ≡ true
+pub kind_ok-number : (kind : Kind) → kind_ok (kind_number kind) ≡ true
 unfolding kind_ok any_of
-kind_ok Kind.Propose = refl
-kind_ok Kind.Ack = refl
-kind_ok Kind.Decide = refl
-kind_ok Kind.Estimate = refl
+kind_ok-number Kind.Propose = refl
+kind_ok-number Kind.Ack = refl
+kind_ok-number Kind.Decide = refl
+kind_ok-number Kind.Estimate = refl

@@ -5,7 +5,6 @@ use Rattle.lists.specs.Choice.{pick}
 use Rattle.readings.specs.declared.Readings.{Readings}
 use Rattle.readings.specs.Readings.{normalised}
 use Rattle.scram.specs.declared.Kind.{Kind}
-use Rattle.scram.specs.declared.Kind.TheVariants as Kind
 use Rattle.scram.specs.Held.{Message, Command}
 use Rattle.law.specs.declared.Marked.{Marked}
 use Rattle.estimate.specs.declared.Estimate.{Estimate}

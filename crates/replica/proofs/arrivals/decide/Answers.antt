@@ -1,0 +1,20 @@
+-- `decide` meets its contract. Assumes nothing.
+use mathlib.Core.Path.{refl}
+use Rattle.lists.specs.Choice.{pick}
+use Rattle.scram.specs.declared.Kind.TheVariants as Kind
+use Rattle.replica.proofs.Written.{kind_ok-number}
+use Rattle.replica.proofs.arrivals.decide.Goals as goal
+
+pub send-length-requires : goal.send-length-requires
+send-length-requires c = (c.requires.0.sizes, kind_ok-number Kind.Decide, c.requires.1)
+
+pub returns : goal.returns
+unfolding pick
+returns c =
+    λ law. record {
+      answer = refl;
+      held = c.hearing-next.ensures;
+      frame-length = c.send-length.ensures.0;
+      frame-bytes = c.send-length.ensures.1;
+      command = rw c.hearing-next.ensures refl;
+    }

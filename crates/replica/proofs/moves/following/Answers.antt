@@ -1,0 +1,5 @@
+-- `following` meets its contract. Assumes nothing.
+use Rattle.replica.proofs.moves.following.Goals as goal
+
+pub returns : goal.returns
+returns c = λ law. rw (c.no_best-best.ensures law)

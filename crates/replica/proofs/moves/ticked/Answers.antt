@@ -1,0 +1,7 @@
+-- `ticked` meets its contract. Assumes nothing.
+use Rattle.replica.proofs.moves.ticked.Goals as goal
+
+pub returns : goal.returns
+returns c =
+    λ law e.
+    rw (c.next_estimate-estimate.ensures law e, c.normalise-taken.ensures, c.no_best-best.ensures law)

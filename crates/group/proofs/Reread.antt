@@ -34,7 +34,7 @@ use Rattle.replica.specs.Frames.{kind_number, kind_of, carried_by, frame_of, mes
 use Rattle.replica.specs.Settings.{law_of}
 use Rattle.replica.proofs.Accepted.{frame-sizes}
 use Rattle.replica.proofs.Calls.{found_some}
-use Rattle.replica.proofs.Written.{kind_ok}
+use Rattle.replica.proofs.Written.{kind_ok-number}
 use Rattle.group.proofs.Typed.{OfKind, Carried}
 
 -- ---- kinds
@@ -111,7 +111,7 @@ module _ (law : Law.Settings) (e : refusal law ≡ 0) (m : Message (List ℤ) Re
   read_as : ReadAs law.n law.m (sent_bytes law.n law.m (some m)) f
   read_as =
       read-exact law.n law.m f typed (frame-sizes law e)
-      (normalised-well-formed law.m f (sizes-accepted law e).m4 (kind_ok m.kind) (normalised-twice law.m m.estimate.readings)) whole
+      (normalised-well-formed law.m f (sizes-accepted law e).m4 (kind_ok-number m.kind) (normalised-twice law.m m.estimate.readings)) whole
 
   message-again : message_of f ≡ m
   message-again = λ i. record {

@@ -1,0 +1,23 @@
+-- `records::conditions::joined` meets its contract. The loop's invariant: it does so for the first i bytes. Assumes nothing.
+use mathlib.Core.Path.{◌≡◌, sym, ap, ◌∙◌}
+use mathlib.Core.Bool.{Bool, ◌&&◌}
+use mathlib.Core.List.{List}
+use Prim.Native.Nat.{ℕ, ◌+◌, ◌-◌, ◌^◌, ◌≤◌}
+use native.Mathlib.Omega.{arith}
+use lib.ListN.{get_or}
+use lib.Dec.{ltb}
+use lib.Pow.{pow_pos}
+use borrow.Author.Tests.{lt-ltb}
+use Rattle.lists.specs.Below.{all_below}
+use Rattle.lists.proofs.Below.{all_none, all-next}
+use Rattle.records.proofs.Joined.{or-below}
+use Rattle.records.proofs.conditions.joined.Given as goal
+
+abbrev pub test : List ℕ → ℕ → ℕ → ℕ → Bool
+test bytes at k i = ltb (get_or bytes (at + i) 0) (2 ^ k)
+
+abbrev pub invariant-loop-i : goal.invariant-loop-i
+invariant-loop-i l = (l.i ≤ l.count) × ((k : ℕ) → ltb l.bits (2 ^ k) ≡ all_below l.i (test l.bytes l.at k))
+
+abbrev pub decreases-loop-i : goal.decreases-loop-i
+decreases-loop-i l = l.count - l.i

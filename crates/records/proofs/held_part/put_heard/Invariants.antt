@@ -1,0 +1,19 @@
+-- `records::held_part::put_heard` meets its contract. The loop's invariant: the bytes of the first j places stand in the area. The measure is the
+-- number of places left. Assumes nothing.
+use mathlib.Core.Path.{◌≡◌, refl, ◌∙◌}
+use Prim.Native.Nat.{◌-◌, ◌≤◌, ◌<◌}
+use native.Mathlib.Omega.{arith}
+use lib.ListN.{length, take, length-set}
+use lib.Seq.{take_all}
+use borrow.Author.Rules.{rules}
+use Rattle.octets.specs.Areas.{put}
+use Rattle.octets.proofs.Areas.{put-nothing}
+use Rattle.records.specs.HeldPart.{heard_bytes}
+use Rattle.records.proofs.Heard.{heard-more}
+use Rattle.records.proofs.held_part.put_heard.Given as goal
+
+abbrev pub invariant-loop-j : goal.invariant-loop-j
+invariant-loop-j l = (l.j ≤ 10) × (l.area ≡ put l.initial.area l.at (heard_bytes (take l.j l.heard))) × (length l.area ≡ length l.initial.area)
+
+abbrev pub decreases-loop-j : goal.decreases-loop-j
+decreases-loop-j l = 10 - l.j

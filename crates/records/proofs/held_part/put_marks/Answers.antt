@@ -1,0 +1,19 @@
+-- `records::held_part::put_marks` meets its contract: the two bytes are put one after the other. Assumes nothing.
+use mathlib.Core.Path.{refl, ap, ◌∙◌}
+use mathlib.Core.List.{[], ◌∷◌}
+use Prim.Native.Nat.{ℕ, ◌+◌}
+use native.Mathlib.Omega.{arith}
+use Rattle.octets.specs.Areas.{put}
+use Rattle.octets.proofs.Areas.{then-put}
+use borrow.Author.Rules.{rules}
+use Rattle.records.proofs.held_part.put_marks.Goals as goal
+
+pub returns : goal.returns
+returns c =
+    let l = c.args.area.now in
+    let at = c.args.at in
+    let l₁ = c.put_byte.new.0 in
+    then-put l _ _ at (at + 1) _ _
+    (c.put_byte.ensures ∙ ap (λ (k : ℕ). put l at (k ∷ [])) c.mark_byte.ensures)
+    (c.put_byte-2.ensures ∙ ap (λ (k : ℕ). put l₁ (at + 1) (k ∷ [])) c.mark_byte-2.ensures)
+    refl (omega (arith, c.requires))

@@ -1,0 +1,20 @@
+-- `records::recording::first_states` meets its contract. The loop's invariant: the first n places are as they were, and those from n to i are 0. Assumes
+-- nothing.
+use mathlib.Core.Path.{◌≡◌, refl, sym, ◌∙◌}
+use mathlib.Core.List.{List}
+use Prim.Native.Nat.{ℕ, ◌-◌, ◌+◌, ◌≤◌, ◌<◌}
+use native.Mathlib.Omega.{arith}
+use native.Mathlib.Decide.{dec_le}
+use borrow.Author.Rules.{rules}
+use lib.ListN.{length, set, length-set}
+use lib.Seq.{ext_get_or, get_or-set_same, get_or-set_other}
+use lib.IntN.{ℤ, pos}
+use Rattle.lists.specs.Places.{entry, filled}
+use Rattle.lists.proofs.Places.{filled-length, filled_at, filled-beyond}
+use Rattle.records.proofs.recording.first_states.Given as goal
+
+abbrev pub invariant-loop-i : goal.invariant-loop-i
+invariant-loop-i l = (l.n ≤ l.i) × Cleared l.n l.initial.states l.i l.states
+
+abbrev pub decreases-loop-i : goal.decreases-loop-i
+decreases-loop-i l = 6 - l.i

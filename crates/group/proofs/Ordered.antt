@@ -13,7 +13,6 @@ use Rattle.lists.proofs.Choice.{pick-ok}
 use Rattle.lists.proofs.Places.{blank-at}
 use Rattle.scram.specs.Quorum.{nobody, among, with}
 use Rattle.scram.specs.declared.Kind.{Kind}
-use Rattle.scram.specs.declared.Kind.TheVariants as Kind
 use Rattle.scram.specs.Held.{Law, Group, Estimate, Best, Held, Message, Outcome, no_best, fresh}
 use Rattle.scram.specs.Events.{bad_sender, bad_base, idle, stale, unwanted, better, estimate_of, entered, hearing, ticked, following, adopting, proposing}
 use Rattle.scram.specs.Events.{raise, after_tick, tick, give_up, hear_ack, hear_estimate, receive, arrive}

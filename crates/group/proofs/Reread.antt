@@ -17,7 +17,6 @@ use Rattle.lists.proofs.Places.{filled_at, filled-beyond, filled-length}
 use Rattle.readings.specs.declared.Readings.{Readings}
 use Rattle.readings.proofs.Normalised.{normalised-twice, normalised-none, normalised-marks, normalised-values}
 use Rattle.scram.specs.declared.Kind.{Kind}
-use Rattle.scram.specs.declared.Kind.TheVariants as Kind
 use Rattle.scram.specs.Held.{Estimate, Message, no_estimate}
 use Rattle.law.specs.declared.Settings as Law
 use Rattle.law.specs.Settings.{refusal}

@@ -19,7 +19,6 @@ use Rattle.readings.specs.declared.Readings.{Readings}
 use Rattle.readings.specs.Readings.{normalised}
 use Rattle.readings.proofs.Normalised.{normalised-twice, normalised-each, normalised-none}
 use Rattle.scram.specs.declared.Kind.{Kind}
-use Rattle.scram.specs.declared.Kind.TheVariants as Kind
 use Rattle.scram.specs.Answers.{Answered}
 use Rattle.scram.specs.Held.{Group, Estimate, Best, Held, Message, Command, no_estimate, fresh}
 use Rattle.scram.specs.Events.{largest, last_view, better, estimate_of, entered, hearing, next_state, ticked, adopting}

@@ -71,6 +71,36 @@ fn the_header_declares_what_the_crate_exports() {
     assert_eq!(declared.wrappers.len(), 3);
 }
 
+/// What stands before a function's body, of each function that begins so: its
+/// name, parameters, result and clauses, however they are laid out.
+fn heads(source: &str, begin: &str) -> Vec<String> {
+    let head = |rest: &str| {
+        let head = rest.split("\n{\n").next().expect("a body");
+        let words: Vec<&str> = head.split_whitespace().collect();
+        words.join(" ").replace("( ", "(").replace(", )", ")")
+    };
+    source.split(begin).skip(1).map(head).collect()
+}
+
+#[test]
+fn each_export_has_the_clauses_of_the_function_that_it_calls() {
+    let mut count = 0;
+    for entry in fs::read_dir(path("crates/winder_c/src")).expect("the crate's folder") {
+        let name = entry.expect("a file of the crate").file_name();
+        let name = name.to_str().expect("a name").to_string();
+        if name == "lib.rt" {
+            continue;
+        }
+        let exports = text(&format!("crates/winder_c/src/{name}"));
+        let called = text(&format!("crates/winder/src/{name}"));
+        let exported = heads(&exports, "\n#[unsafe(no_mangle)]\npub extern \"C\" fn ");
+        let public = heads(&called, "\npub fn ");
+        assert_eq!(exported, public, "{name}");
+        count += exported.len();
+    }
+    assert_eq!(count, exports().len());
+}
+
 #[test]
 fn the_declarations_for_rust_are_what_the_crate_exports() {
     let imports = imported(&text("include/rust/src/declarations.rs")).expect("a block");

@@ -110,6 +110,7 @@ NoneLater k [] = Unit {0}
 NoneLater k (b ∷ l) = (command_period b ≤ k) × NoneLater k l
 
 none-later : (k : ℕ) (l : List (List ℕ)) → NoneLater k l → (b : List ℕ) → In b l → command_period b ≤ k
+none-later k [] h b x = elim x [ ]
 none-later k (c ∷ l) h b (inl q) = subst (λ b. command_period b ≤ k) (sym q) h.0
 none-later k (c ∷ l) h b (inr p) = none-later k l h.1 b p
 

@@ -10,7 +10,6 @@ use Rattle.lists.specs.Choice.{pick}
 use Rattle.scram.specs.Quorum.{majority, coordinator, beats, count}
 use Rattle.scram.specs.Held.{Law, Group, Held, Message, Command, Input, Tick, Arrival, GiveUp, Outcome, fresh}
 use Rattle.scram.specs.declared.Kind.{Kind}
-use Rattle.scram.specs.declared.Kind.TheVariants as Kind
 use Rattle.scram.specs.Events.{better, bad_sender, bad_place, bad_base, unwanted, raise, after_tick, tick, give_up, hear_ack, hear_estimate, receive, arrive}
 use Rattle.scram.specs.History.{Result, System}
 use Rattle.scram.specs.Shown.{is_refused}

@@ -1,7 +1,7 @@
 -- Demand 3 with events asked first (document 02, L6), over any implementation: "In demand 3 the commit counts as writing and sending what its ask gave;
 -- none of it leaves earlier." A list has L4's entries, asks and commits. As in L4 nothing is asked of a list: an entry that breaks a condition does
 -- nothing. What is said of a command, and the single controller, are the base's; a list without asks and commits is one of L4 (proofs/Unasked).
-use Rattle.std.specs.Prelude.{◌≡◌, ◌⊎◌, Bool, true, false, not, ◌&&◌, ◌||◌, ℕ, suc, ◌≤◌, length, get_or}
+use Rattle.std.specs.Prelude.{◌≡◌, ◌⊎◌, Bool, false, not, ◌&&◌, ◌||◌, ℕ, suc, ◌≤◌, length, get_or}
 use Rattle.std.proofs.Math.Option.{Option, none, some}
 use mathlib.Core.List.{List, [], ◌∷◌, ◌++◌}
 use Rattle.lists.specs.Choice.{pick}

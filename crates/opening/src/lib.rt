@@ -123,6 +123,7 @@ fn is_from_one(size: usize, most: usize) -> bool
 }
 
 // The refusal of these numbers, or 0: 1 for the boxes, then 2 for the others.
+#[tactic(auto, unfolding(crate::specs::Opening::sizes_refusal, lists::specs::Choice::pick))]
 fn sizes_refusal(s: Sizes) -> u8
     ensures { result ≡ sizes_refusal s }
 {

@@ -14,5 +14,5 @@ returns c =
       box_number = get_or s.bytes.now (s.at + 1) 0;
       base_view = c.u32_at.ensures i;
       base_period = c.u32_at-2.ensures i;
-      c.before.before.before = c.estimate_at-estimate.ensures i;
+      estimate = c.estimate_at-estimate.ensures i;
     }

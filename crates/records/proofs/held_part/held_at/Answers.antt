@@ -7,7 +7,7 @@ pub returns : goal.returns
 unfolding held_at
 returns c =
     λ i. record {
-      c.before.before.before.before.before = c.u32_at.ensures i;
+      period = c.u32_at.ensures i;
       view = c.u32_at-2.ensures i;
       base_view = c.u32_at-3.ensures i;
       view_change = c.mark_at.ensures i;
@@ -15,5 +15,5 @@ returns c =
       estimate = c.estimate_at-estimate.ensures i;
       base_period = c.u32_at-4.ensures i;
       heard = c.heard_at-heard.ensures i;
-      c.before.before.before.before.before.before = c.best_at-best.ensures i;
+      best = c.best_at-best.ensures i;
     }

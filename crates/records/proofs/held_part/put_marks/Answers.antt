@@ -12,7 +12,7 @@ pub returns : goal.returns
 returns c =
     let l = c.args.area.now in
     let at = c.args.at in
-    let l₁ = c.put_byte.new.0 in
+    let l₁ = c.put_byte.new.area in
     then-put l _ _ at (at + 1) _ _
     (c.put_byte.ensures ∙ ap (λ (k : ℕ). put l at (k ∷ [])) c.mark_byte.ensures)
     (c.put_byte-2.ensures ∙ ap (λ (k : ℕ). put l₁ (at + 1) (k ∷ [])) c.mark_byte-2.ensures)

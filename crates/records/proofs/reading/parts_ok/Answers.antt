@@ -9,35 +9,43 @@ use Rattle.replica.specs.Settings.{settings_refusal}
 use Rattle.replica.proofs.Accepted.{accepted}
 use Rattle.records.proofs.HeldOk.{stop, next}
 use Rattle.records.proofs.reading.parts_ok.Goals as goal
-use Rattle.records.proofs.reading.parts_ok.Lts as lts
-use Rattle.records.proofs.reading.parts_ok.Reads as reads
-use Rattle.records.proofs.reading.parts_ok.Tie as tie
-
--- the settings that the caller's tables make
-abbrev given : lts.Start tie.the-claims reads.Pre reads.Post → Settings
-given s =
-    let a = s.args in record {
-      boxes = a.boxes;
-      own = a.own;
-      quorums = a.quorums;
-      law = settings_of a.n a.m a.p a.a.now a.l.now a.c.now a.k.now a.low.now a.high.now;
-    }
 
 pub returns-then-number-ne0 : goal.returns-then-number-ne0
 returns-then-number-ne0 c =
-    let number : c.settings_refusal-number.result ≡ settings_refusal (given c.before.before.before) =
-      c.settings_refusal-number.ensures (given c.before.before.before).law c.check-checked.ensures in
-    stop _ (ne_eqb (settings_refusal (given c.before.before.before.before)) 0 (λ z. c.if-number-ne0.true (number ∙ z)))
+    let given : Settings =
+      let a = c.args in record {
+        boxes = a.boxes;
+        own = a.own;
+        quorums = a.quorums;
+        law = settings_of a.n a.m a.p a.a.now a.l.now a.c.now a.k.now a.low.now a.high.now;
+      } in
+    let number : c.settings_refusal-number.result ≡ settings_refusal given =
+      c.settings_refusal-number.ensures given.law c.check-checked.ensures in
+    stop _ (ne_eqb (settings_refusal given) 0 (λ z. c.if-number-ne0.true (number ∙ z)))
 
 pub held_ok-requires : goal.held_ok-requires
 held_ok-requires c =
-    let number : c.settings_refusal-number.result ≡ settings_refusal (given c.before.before.before) =
-      c.settings_refusal-number.ensures (given c.before.before.before).law c.check-checked.ensures in
-    let z = sizes-accepted _ (accepted (given c.before.before.before.before) (sym (number) ∙ c.if-number-ne0.false)).law in
+    let given : Settings =
+      let a = c.args in record {
+        boxes = a.boxes;
+        own = a.own;
+        quorums = a.quorums;
+        law = settings_of a.n a.m a.p a.a.now a.l.now a.c.now a.k.now a.low.now a.high.now;
+      } in
+    let number : c.settings_refusal-number.result ≡ settings_refusal given =
+      c.settings_refusal-number.ensures given.law c.check-checked.ensures in
+    let z = sizes-accepted _ (accepted given (sym number ∙ c.if-number-ne0.false)).law in
     (c.requires, z.m1, z.m4)
 
 pub returns : goal.returns
 returns c =
-    let number : c.settings_refusal-number.result ≡ settings_refusal (given c.before.before.before) =
-      c.settings_refusal-number.ensures (given c.before.before.before).law c.check-checked.ensures in
-    next (eq-eqb (settings_refusal (given c.before.before.before.before.before)) 0 (sym (number) ∙ c.if-number-ne0.false)) c.held_ok.ensures
+    let given : Settings =
+      let a = c.args in record {
+        boxes = a.boxes;
+        own = a.own;
+        quorums = a.quorums;
+        law = settings_of a.n a.m a.p a.a.now a.l.now a.c.now a.k.now a.low.now a.high.now;
+      } in
+    let number : c.settings_refusal-number.result ≡ settings_refusal given =
+      c.settings_refusal-number.ensures given.law c.check-checked.ensures in
+    next (eq-eqb (settings_refusal given) 0 (sym number ∙ c.if-number-ne0.false)) c.held_ok.ensures

@@ -16,77 +16,65 @@ use Rattle.records.specs.HeldPart.{held_at}
 use Rattle.records.specs.Reading.{layout_ok, held_ok, is_record, replica_in}
 use Rattle.records.proofs.IsRecord.{parts, layout-length, no-layout, parts-record, read-refused, read_done}
 use Rattle.records.proofs.reading.read.Goals as goal
-use Rattle.records.proofs.reading.read.Lts as lts
-use Rattle.records.proofs.reading.read.Reads as reads
-use Rattle.records.proofs.reading.read.Tie as tie
-
--- the bytes that are read
-abbrev given : lts.After-layout_ok tie.the-claims reads.Pre reads.Post → List ℕ
-given c = c.before.before.args.bytes.now
-
-abbrev made : lts.After-parts_ok tie.the-claims reads.Pre reads.Post → lts.After-settings_in tie.the-claims reads.Pre reads.Post
-made c = c.before.before.before.before.before.before.before.before.before
 
 pub returns-then-not-layout_ok : goal.returns-then-not-layout_ok
 returns-then-not-layout_ok c =
     let r = read-refused _ (no-layout _ (sym c.layout_ok.ensures ∙ c.if-not-layout_ok.true)) in
-    (c.refused.ensures.0 ∙ sym r.0, c.refused.ensures.1 ∙ sym r.1)
+    record { answer = c.refused.ensures.answer ∙ sym r.0; replica = c.refused.ensures.replica ∙ sym r.1 }
 
 pub settings_in-settings-requires : goal.settings_in-settings-requires
 settings_in-settings-requires c =
-    let laid_out : layout_ok (given c.before) ≡ true =
+    let laid_out : layout_ok c.args.bytes.now ≡ true =
       sym c.layout_ok.ensures ∙ c.if-not-layout_ok.false in
-    let long : length (given c.before) ≡ record_length =
-      layout-length _ (laid_out) in
+    let long : length c.args.bytes.now ≡ record_length =
+      layout-length _ laid_out in
     long
 
 pub parts_ok-ok-requires : goal.parts_ok-ok-requires
 parts_ok-ok-requires c =
-    let laid_out : layout_ok (given c.before) ≡ true =
+    let laid_out : layout_ok c.args.bytes.now ≡ true =
       sym c.layout_ok.ensures ∙ c.if-not-layout_ok.false in
-    let long : length (given c.before) ≡ record_length =
-      layout-length _ (laid_out) in
+    let long : length c.args.bytes.now ≡ record_length =
+      layout-length _ laid_out in
     long
 
 pub returns-then-not-ok : goal.returns-then-not-ok
 returns-then-not-ok c =
-    let laid_out : layout_ok (given c.before) ≡ true =
+    let laid_out : layout_ok c.args.bytes.now ≡ true =
       sym c.layout_ok.ensures ∙ c.if-not-layout_ok.false in
-    let found : c.parts_ok-ok.result ≡ is_record (given (made c).before.before) =
-      let d = made c in
-      let b = given d.before.before in
+    let found : c.parts_ok-ok.result ≡ is_record (c.args.bytes.now) =
+      let b = c.args.bytes.now in
       c.parts_ok-ok.ensures
-      ∙ ap (λ (k : ℕ). eqb k 0 && held_ok d.settings-in.result.boxes d.settings-in.result.law.n d.settings-in.result.law.m (held_at b settings_length) b)
-      (settings-lent d.settings-in.result)
-      ∙ ap (λ (s : Settings). parts b s) d.settings-in.ensures
-      ∙ parts-record b (laid_out d.before) in
-    let r = read-refused _ (sym (found) ∙ c.if-not-ok.true) in
-    (c.refused-then-not-ok.ensures.0 ∙ sym r.0, c.refused-then-not-ok.ensures.1 ∙ sym r.1)
+      ∙ ap (λ (k : ℕ). eqb k 0 && held_ok c.settings_in-settings.result.boxes c.settings_in-settings.result.law.n c.settings_in-settings.result.law.m (held_at b settings_length) b)
+      (settings-lent c.settings_in-settings.result)
+      ∙ ap (λ (s : Settings). parts b s) c.settings_in-settings.ensures
+      ∙ parts-record b laid_out in
+    let r = read-refused _ (sym found ∙ c.if-not-ok.true) in
+    record { answer = c.refused-then-not-ok.ensures.answer ∙ sym r.0; replica = c.refused-then-not-ok.ensures.replica ∙ sym r.1 }
 
 pub held_at-held-requires : goal.held_at-held-requires
 held_at-held-requires c =
-    let laid_out : layout_ok (given c.before) ≡ true =
+    let laid_out : layout_ok c.args.bytes.now ≡ true =
       sym c.layout_ok.ensures ∙ c.if-not-layout_ok.false in
-    let long : length (given c.before) ≡ record_length =
-      layout-length _ (laid_out) in
-    omega (arith, long (made c.before).before)
+    let long : length c.args.bytes.now ≡ record_length =
+      layout-length _ laid_out in
+    omega (arith, long)
 
 pub returns : goal.returns
 unfolding replica_in
 returns c =
-    let laid_out : layout_ok (given c.before) ≡ true =
+    let laid_out : layout_ok c.args.bytes.now ≡ true =
       sym c.layout_ok.ensures ∙ c.if-not-layout_ok.false in
-    let found : c.parts_ok-ok.result ≡ is_record (given (made c).before.before) =
-      let d = made c in
-      let b = given d.before.before in
+    let found : c.parts_ok-ok.result ≡ is_record (c.args.bytes.now) =
+      let b = c.args.bytes.now in
       c.parts_ok-ok.ensures
-      ∙ ap (λ (k : ℕ). eqb k 0 && held_ok d.settings-in.result.boxes d.settings-in.result.law.n d.settings-in.result.law.m (held_at b settings_length) b)
-      (settings-lent d.settings-in.result)
-      ∙ ap (λ (s : Settings). parts b s) d.settings-in.ensures
-      ∙ parts-record b (laid_out d.before) in
-    let r = read_done _ (sym (found) ∙ c.if-not-ok.false) in (
-      sym r.0,
-      ap₂ (λ (s : Settings) (x : Held). record { settings = s; held = x })
-          (made c.before.before).settings-in.ensures c.held_at-held.ensures
-          ∙ sym r.1,
-    )
+      ∙ ap (λ (k : ℕ). eqb k 0 && held_ok c.settings_in-settings.result.boxes c.settings_in-settings.result.law.n c.settings_in-settings.result.law.m (held_at b settings_length) b)
+      (settings-lent c.settings_in-settings.result)
+      ∙ ap (λ (s : Settings). parts b s) c.settings_in-settings.ensures
+      ∙ parts-record b laid_out in
+    let r = read_done _ (sym found ∙ c.if-not-ok.false) in record {
+      answer = sym r.0;
+      replica = ap₂ (λ (s : Settings) (x : Held). record { settings = s; held = x })
+          c.settings_in-settings.ensures c.held_at-held.ensures
+          ∙ sym r.1;
+    }

@@ -22,11 +22,11 @@ returns c =
       n = get_or b 4 0;
       m = get_or b 5 0;
       p = get_or b 6 0;
-      c.before.before.before.before.before.before.before.before.before = c.table_36-a.ensures i;
-      c.before.before.before.before.before.before.before.before = c.table_24-l.ensures i;
+      a = c.table_36-a.ensures i;
+      l = c.table_24-l.ensures i;
       c = c.table_24-c.ensures i;
-      c.before.before.before.before.before.before = c.table_24-k.ensures i;
-      c.before.before.before.before.before = c.four_values-low.ensures i;
+      k = c.table_24-k.ensures i;
+      low = c.four_values-low.ensures i;
       high = c.four_values-high.ensures i;
       start = c.six_values-start.ensures i;
     }

@@ -31,52 +31,52 @@ pub put_values-requires-6 : goal.put_values-requires-6
 put_values-requires-6 c =
     let high-length : length c.args.law.high ≡ 4 =
       search rules in
-    let kept1 : length c.put_values.new.1.0 ≡ length c.args.area.now =
-      c.put_values.auto.1.0 in
-    let kept2 : length c.put_values-2.new.1.0 ≡ length c.args.area.now =
-      c.put_values-2.auto.1.0 ∙ kept1 in
-    let kept3 : length c.put_values-3.new.1.0 ≡ length c.args.area.now =
-      c.put_values-3.auto.1.0 ∙ kept2 in
-    let kept4 : length c.put_values-4.new.1.0 ≡ length c.args.area.now =
-      c.put_values-4.auto.1.0 ∙ kept3 in
-    let kept5 : length c.put_values-5.new.1.0 ≡ length c.args.area.now =
-      c.put_values-5.auto.1.0 ∙ kept4 in
+    let kept1 : length c.put_values.new.area ≡ length c.args.area.now =
+      c.put_values.auto.area in
+    let kept2 : length c.put_values-2.new.area ≡ length c.args.area.now =
+      c.put_values-2.auto.area ∙ kept1 in
+    let kept3 : length c.put_values-3.new.area ≡ length c.args.area.now =
+      c.put_values-3.auto.area ∙ kept2 in
+    let kept4 : length c.put_values-4.new.area ≡ length c.args.area.now =
+      c.put_values-4.auto.area ∙ kept3 in
+    let kept5 : length c.put_values-5.new.area ≡ length c.args.area.now =
+      c.put_values-5.auto.area ∙ kept4 in
     omega (arith, c.requires, high-length, kept5)
 
 pub put_values-requires-7 : goal.put_values-requires-7
 put_values-requires-7 c =
     let start-length : length c.args.law.start ≡ 6 =
       search rules in
-    let kept1 : length c.put_values.new.1.0 ≡ length c.args.area.now =
-      c.put_values.auto.1.0 in
-    let kept2 : length c.put_values-2.new.1.0 ≡ length c.args.area.now =
-      c.put_values-2.auto.1.0 ∙ kept1 in
-    let kept3 : length c.put_values-3.new.1.0 ≡ length c.args.area.now =
-      c.put_values-3.auto.1.0 ∙ kept2 in
-    let kept4 : length c.put_values-4.new.1.0 ≡ length c.args.area.now =
-      c.put_values-4.auto.1.0 ∙ kept3 in
-    let kept5 : length c.put_values-5.new.1.0 ≡ length c.args.area.now =
-      c.put_values-5.auto.1.0 ∙ kept4 in
-    let kept6 : length c.put_values-6.new.1.0 ≡ length c.args.area.now =
-      c.put_values-6.auto.1.0 ∙ kept5 in
+    let kept1 : length c.put_values.new.area ≡ length c.args.area.now =
+      c.put_values.auto.area in
+    let kept2 : length c.put_values-2.new.area ≡ length c.args.area.now =
+      c.put_values-2.auto.area ∙ kept1 in
+    let kept3 : length c.put_values-3.new.area ≡ length c.args.area.now =
+      c.put_values-3.auto.area ∙ kept2 in
+    let kept4 : length c.put_values-4.new.area ≡ length c.args.area.now =
+      c.put_values-4.auto.area ∙ kept3 in
+    let kept5 : length c.put_values-5.new.area ≡ length c.args.area.now =
+      c.put_values-5.auto.area ∙ kept4 in
+    let kept6 : length c.put_values-6.new.area ≡ length c.args.area.now =
+      c.put_values-6.auto.area ∙ kept5 in
     omega (arith, c.requires, start-length, kept6)
 
 pub shape_of-area : goal.shape_of-area
 shape_of-area c =
-    let kept1 : length c.put_values.new.1.0 ≡ length c.args.area.now =
-      c.put_values.auto.1.0 in
-    let kept2 : length c.put_values-2.new.1.0 ≡ length c.args.area.now =
-      c.put_values-2.auto.1.0 ∙ kept1 in
-    let kept3 : length c.put_values-3.new.1.0 ≡ length c.args.area.now =
-      c.put_values-3.auto.1.0 ∙ kept2 in
-    let kept4 : length c.put_values-4.new.1.0 ≡ length c.args.area.now =
-      c.put_values-4.auto.1.0 ∙ kept3 in
-    let kept5 : length c.put_values-5.new.1.0 ≡ length c.args.area.now =
-      c.put_values-5.auto.1.0 ∙ kept4 in
-    let kept6 : length c.put_values-6.new.1.0 ≡ length c.args.area.now =
-      c.put_values-6.auto.1.0 ∙ kept5 in
-    let kept7 : length c.put_values-7.new.1.0 ≡ length c.args.area.now =
-      c.put_values-7.auto.1.0 ∙ kept6 in
+    let kept1 : length c.put_values.new.area ≡ length c.args.area.now =
+      c.put_values.auto.area in
+    let kept2 : length c.put_values-2.new.area ≡ length c.args.area.now =
+      c.put_values-2.auto.area ∙ kept1 in
+    let kept3 : length c.put_values-3.new.area ≡ length c.args.area.now =
+      c.put_values-3.auto.area ∙ kept2 in
+    let kept4 : length c.put_values-4.new.area ≡ length c.args.area.now =
+      c.put_values-4.auto.area ∙ kept3 in
+    let kept5 : length c.put_values-5.new.area ≡ length c.args.area.now =
+      c.put_values-5.auto.area ∙ kept4 in
+    let kept6 : length c.put_values-6.new.area ≡ length c.args.area.now =
+      c.put_values-6.auto.area ∙ kept5 in
+    let kept7 : length c.put_values-7.new.area ≡ length c.args.area.now =
+      c.put_values-7.auto.area ∙ kept6 in
     kept7
 
 pub returns : goal.returns
@@ -99,11 +99,11 @@ returns c =
     let l = c.args.area.now in
     let law = c.args.law in
     let w₀ : Written l 8 8 [] l = record { same = put-nothing l 8; ends = refl } in
-    let w₁ = then-values w₀ law.a 36 (a-length) (omega (arith, c.requires)) _ c.put-values.ensures in
-    let w₂ = then-values w₁ law.l 24 (l-length) (omega (arith, c.requires)) _ c.put-values2.ensures in
-    let w₃ = then-values w₂ law.c 24 (c-length) (omega (arith, c.requires)) _ c.put-values3.ensures in
-    let w₄ = then-values w₃ law.k 24 (k-length) (omega (arith, c.requires)) _ c.put-values4.ensures in
-    let w₅ = then-values w₄ law.low 4 (low-length) (omega (arith, c.requires)) _ c.put-values5.ensures in
-    let w₆ = then-values w₅ law.high 4 (high-length) (omega (arith, c.requires)) _ c.put-values6.ensures in
+    let w₁ = then-values w₀ law.a 36 (a-length) (omega (arith, c.requires)) _ c.put_values.ensures in
+    let w₂ = then-values w₁ law.l 24 (l-length) (omega (arith, c.requires)) _ c.put_values-2.ensures in
+    let w₃ = then-values w₂ law.c 24 (c-length) (omega (arith, c.requires)) _ c.put_values-3.ensures in
+    let w₄ = then-values w₃ law.k 24 (k-length) (omega (arith, c.requires)) _ c.put_values-4.ensures in
+    let w₅ = then-values w₄ law.low 4 (low-length) (omega (arith, c.requires)) _ c.put_values-5.ensures in
+    let w₆ = then-values w₅ law.high 4 (high-length) (omega (arith, c.requires)) _ c.put_values-6.ensures in
     let w₇ = then-values w₆ law.start 6 (start-length) (omega (arith, c.requires)) _ c.put_values-7.ensures in
     w₇.same

@@ -8,4 +8,4 @@ pub returns : goal.returns
 unfolding settings_in
 returns c =
     let b = c.args.bytes.now in
-    λ i. record { boxes = get_or b 2 0; own = get_or b 3 0; c.before.before = c.quorums_in-quorums.ensures i; c.before.before.before.before = c.law_in-law.ensures i }
+    λ i. record { boxes = get_or b 2 0; own = get_or b 3 0; quorums = c.quorums_in-quorums.ensures i; law = c.law_in-law.ensures i }

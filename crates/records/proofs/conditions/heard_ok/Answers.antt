@@ -2,7 +2,6 @@
 use mathlib.Core.Path.{◌≡◌, refl, sym, ap, ap₂, ◌∙◌}
 use mathlib.Core.Bool.{Bool, true, false, not, ◌&&◌, ◌||◌, and-true, or-false}
 use mathlib.Core.List.{List}
-use mathlib.Core.Logic.{⊎_elim}
 use Prim.Native.Nat.{ℕ, zero, suc, ◌-◌, ◌+◌, ◌≤◌, ◌<◌}
 use native.Mathlib.Omega.{arith}
 use lib.Bits.{bit_or}
@@ -20,6 +19,7 @@ use Rattle.records.proofs.HeldLaws.{heard-small}
 use Rattle.records.proofs.Joined.{or-zero}
 use Rattle.records.proofs.conditions.heard_ok.Invariants.{test}
 use Rattle.records.proofs.conditions.heard_ok.Goals as goal
+use Rattle.records.proofs.conditions.heard_ok.Goals.{then-last-j, else-last-j}
 
 -- a byte that is 0 or 1 is no mark exactly where it is 0
 no-mark : (x : ℕ) → x ≤ 1 → not (eqb x 1) ≡ eqb x 0
@@ -85,8 +85,9 @@ loop-j-preserved c =
     let q = looked c.args.boxes c.args.bytes.now c.requires.1 l.j l.bits e in (
       omega arith,
       omega arith,
-      ⊎_elim (λ w. ap (λ (x : ℕ). eqb x 0) w.2 ∙ q (omega arith) w.0.taken)
-          (λ w. ap (λ (x : ℕ). eqb x 0) w.1 ∙ p l.invariant.0 w.0.left) c.if-last-j.branch,
+      elim c.if-last-j.branch
+        [ then-last-j w ↦ ap (λ (x : ℕ). eqb x 0) w.bits-is ∙ q (omega arith) w.if-last-j.true
+        | else-last-j w ↦ ap (λ (x : ℕ). eqb x 0) w.bits-is ∙ p l.invariant.0 w.if-last-j.false ],
     )
 
 pub returns : goal.returns

@@ -29,7 +29,7 @@ fails : (n : ℕ) (state : List ℤ) (i : ℕ) → n ≤ i → is_zero (entry st
 fails n state i l z = rw (le-ltb i n l, z)
 
 pub loop-i-init : goal.loop-i-init
-loop-i-init c = let s = c.args in (omega arith, all_of (test s.n s.t2) s.n (in_use s.n s.t2))
+loop-i-init c = let s = c.args in (omega arith, all_of (test s.n s.state) s.n (in_use s.n s.state))
 
 pub offset_bounds-state-i : goal.offset_bounds-state-i
 offset_bounds-state-i c = omega arith
@@ -42,8 +42,8 @@ unfolding states_ok
 returns-then-z-ne0 c =
     let s = c.args in
     let l = c.loop-i in
-    let zero = sym (bits-zero (entry s.t2 l.i) (record { sfits = c.z-1.given })) ∙ ne_eqb _ 0 c.if-z-ne0.true in
-    sym (one-fails (test s.n s.t2) 6 l.i (omega arith) (fails s.n s.t2 l.i l.invariant.0 zero))
+    let zero = sym (bits-zero (entry s.state l.i) (record { sfits = c.z-1.given })) ∙ ne_eqb _ 0 c.if-z-ne0.true in
+    sym (one-fails (test s.n s.state) 6 l.i (omega arith) (fails s.n s.state l.i l.invariant.0 zero))
 
 pub overflow_add-i : goal.overflow_add-i
 overflow_add-i c = omega arith
@@ -55,13 +55,13 @@ pub loop-i-preserved : goal.loop-i-preserved
 loop-i-preserved c =
     let s = c.args in
     let l = c.loop-i in
-    let zero = sym (bits-zero (entry s.t2 l.i) (record { sfits = c.z-1.given })) ∙ eq-eqb _ 0 c.if-z-ne0.false in
-    (omega arith, all_more (test s.n s.t2) l.i l.invariant.1 (passes s.n s.t2 l.i zero))
+    let zero = sym (bits-zero (entry s.state l.i) (record { sfits = c.z-1.given })) ∙ eq-eqb _ 0 c.if-z-ne0.false in
+    (omega arith, all_more (test s.n s.state) l.i l.invariant.1 (passes s.n s.state l.i zero))
 
 pub returns : goal.returns
 unfolding states_ok
 returns c =
     let s = c.args in
     let l = c.loop-i in
-    let t = test s.n s.t2 in
+    let t = test s.n s.state in
     sym (all_of t 6 (λ k h. all-at t l.i k l.invariant.1 (omega arith)))

@@ -14,12 +14,6 @@ use Rattle.lists.proofs.Places.{filled-length, filled_at, filled-beyond}
 use Rattle.records.proofs.recording.first_states.Invariants.{Cleared}
 use Rattle.records.proofs.recording.first_states.Goals as goal
 
--- the first n places are as they were, and those from n to i are 0
-record Cleared (n : ℕ) (before : List ℤ) (i : ℕ) (states : List ℤ) : Type 0 where
-  long : length states ≡ 6
-  first : (j : ℕ) → j < n → entry states j ≡ entry before j
-  rest : (j : ℕ) → n ≤ j → j < i → entry states j ≡ pos 0
-
 -- a turn of the loop
 clear : (n i : ℕ) (before states : List ℤ) → n ≤ i → i < 6 → Cleared n before i states → Cleared n before (i + 1) (set states i (pos 0))
 clear n i before states low high c = record {
@@ -27,7 +21,10 @@ clear n i before states low high c = record {
   first = λ j l. get_or-set_other states i j (pos 0) (pos 0) (λ (e : j ≡ i). omega arith) ∙ c.first j l;
   rest = λ j l h. by j l h (dec_le i j);
 }
-
+  where
+    by : (j : ℕ) → n ≤ j → j < i + 1 → Dec (i ≤ j) → entry (set states i (pos 0)) j ≡ pos 0
+    by j l h (yes e) = let q : j ≡ i = omega arith in rw q (get_or-set_same states i (pos 0) (pos 0) (omega (arith, c.long)))
+    by j l h (no d) = get_or-set_other states i j (pos 0) (pos 0) (λ (e : j ≡ i). omega arith) ∙ c.rest j l (omega arith)
 -- all places are cleared
 cleared : (n i : ℕ) (before states : List ℤ) → 6 ≤ i → Cleared n before i states → states ≡ filled (pos 0) 6 n (entry before)
 cleared n i before states last c =

@@ -13,6 +13,12 @@ use Rattle.lists.specs.Places.{entry, filled}
 use Rattle.lists.proofs.Places.{filled-length, filled_at, filled-beyond}
 use Rattle.records.proofs.recording.first_states.Given as goal
 
+-- the first n places are as they were, and those from n to i are 0
+pub record Cleared (n : ℕ) (before : List ℤ) (i : ℕ) (states : List ℤ) : Type 0 where
+  pub long : length states ≡ 6
+  pub first : (j : ℕ) → j < n → entry states j ≡ entry before j
+  pub rest : (j : ℕ) → n ≤ j → j < i → entry states j ≡ pos 0
+
 abbrev pub invariant-loop-i : goal.invariant-loop-i
 invariant-loop-i l = (l.n ≤ l.i) × Cleared l.n l.initial.states l.i l.states
 

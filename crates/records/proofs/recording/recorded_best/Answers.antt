@@ -14,10 +14,10 @@ with_estimate b e = record { any = b.any; box_number = b.box_number; base_view =
 
 pub returns-then-not-best : goal.returns-then-not-best
 unfolding recorded_best
-returns-then-not-best c = c.no_best.ensures ∙ sym (pick-false _ _ _ (c.if-not-best.true))
+returns-then-not-best c = c.no_best.ensures ∙ sym (pick-false _ _ _ (not-true _ c.if-not-best.true))
 
 pub returns : goal.returns
 unfolding recorded_best
 returns c =
     let b = c.args.best in
-    ap (with_estimate b) c.carried_estimate-estimate.ensures ∙ sym (pick_true b.any _ _ (c.if-not-best.false))
+    ap (with_estimate b) c.carried_estimate-estimate.ensures ∙ sym (pick_true b.any _ _ (not-false _ c.if-not-best.false))

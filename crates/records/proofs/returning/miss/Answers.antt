@@ -12,7 +12,7 @@ use Rattle.records.proofs.returning.miss.Goals as goal
 pub returns : goal.returns
 returns c =
     let t = c.tick-stepped in
-    let r = c.args.replica in (
-      c.is_refused.ensures ∙ ap is_refused t.ensures.answer ∙ ap (λ (y : Readings). is_refused (tick_outcome r y longest_frame longest_command).answer) none-missing,
-      t.ensures.replica ∙ ap (λ (y : Readings). record { settings = r.settings; held = held_of (tick_outcome r y longest_frame longest_command).held }) none-missing,
-    )
+    let r = c.args.replica in record {
+      refused = c.is_refused.ensures ∙ ap is_refused t.ensures.answer ∙ ap (λ (y : Readings). is_refused (tick_outcome r y longest_frame longest_command).answer) none-missing;
+      replica = t.ensures.replica ∙ ap (λ (y : Readings). record { settings = r.settings; held = held_of (tick_outcome r y longest_frame longest_command).held }) none-missing;
+    }

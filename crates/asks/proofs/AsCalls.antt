@@ -5,8 +5,8 @@ use mathlib.Core.Bool.{Bool, true, false}
 use mathlib.Core.Option.{some}
 use lib.Dec.{eqb}
 use Rattle.lists.specs.Choice.{pick}
-use Rattle.lists.proofs.Choice.{pick_true, pick-false}
-use Rattle.scram.specs.Answers.{Answered, Done, Ignored, Refused}
+use Rattle.lists.proofs.Choice.{pick-false}
+use Rattle.scram.specs.Answers.{Done, Ignored, Refused}
 use Rattle.scram.specs.Events.{refusing, ignoring}
 use Rattle.replica.specs.declared.Held.{Held}
 use Rattle.replica.specs.declared.Replica.{Replica}
@@ -19,8 +19,8 @@ use Rattle.tickets.specs.Tickets.{is_spent, after_ask, after_step, commits, afte
 use Rattle.tickets.proofs.Laws.{ask-spent}
 use Rattle.tickets.specs.Calls.{Asked, Committed, Box, after, given}
 use Rattle.asks.specs.declared.Ticketed.{Ticketed}
-use Rattle.asks.specs.Asking.{tickets_of, tickets_in, answer_before, outcome_after, ask_outcome, commit_answer, committed}
-use Rattle.asks.specs.AsCalls.{looked, box_of, result, ignored, AskIsCall, StepIsCall, CommitIsCall, ReturnIsCall}
+use Rattle.asks.specs.Asking.{tickets_of, answer_before, outcome_after, ask_outcome, committed}
+use Rattle.asks.specs.AsCalls.{looked, box_of, AskIsCall, StepIsCall, CommitIsCall, ReturnIsCall}
 
 -- a box, of its two parts
 abbrev box_with : Held → Of.Tickets Held → Box Held

@@ -10,10 +10,8 @@ use Rattle.lists.proofs.Booleans.{never}
 use Rattle.lists.proofs.Choice.{pick_true, pick-false}
 use Rattle.octets.specs.Areas.{over}
 use Rattle.scram.specs.declared.Answer.{Answer}
-use Rattle.scram.specs.declared.Answer.TheVariants as Answer
 use Rattle.scram.specs.Answers.{Answered, Done, Ignored, Refused, answered}
 use Rattle.replica.specs.declared.Stepped as Plain
-use Rattle.replica.specs.Held.{held_of}
 use Rattle.replica.specs.Calls.{Outcomes, Gives}
 use Rattle.records.specs.Recording.{record_refusal, recorded}
 use Rattle.records.specs.Reading.{is_done}

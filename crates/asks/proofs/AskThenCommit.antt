@@ -1,16 +1,15 @@
 -- Asking and committing give what the step gives. Assumes nothing.
-use Prim.Native.Nat.{ℕ, ◌+◌, ◌≤◌}
+use Prim.Native.Nat.{ℕ, ◌≤◌}
 use mathlib.Core.Path.{◌≡◌, refl, sym, ap, ap₂, ◌∙◌, subst}
 use mathlib.Core.Bool.{Bool, true, false, not}
 use mathlib.Core.List.{List, []}
 use lib.ListN.{length}
 use lib.Dec.{eqb}
 use borrow.Author.Tests.{eqb-true, eqb-false, eq-eqb, le-ltb, ne_eqb}
-use Rattle.lists.specs.Choice.{pick}
 use Rattle.lists.proofs.Choice.{pick_true, pick-false}
 use Rattle.octets.specs.Areas.{over}
 use Rattle.transmitters.specs.declared.Reading.{Reading}
-use Rattle.scram.specs.Answers.{Answered, Done, Refused, answered}
+use Rattle.scram.specs.Answers.{Answered, Done, Refused}
 use Rattle.scram.specs.Events.{refusing}
 use Rattle.scram.specs.Held.{Input, Tick, Arrival, GiveUp}
 use Rattle.replica.specs.declared.Held.{Held}
@@ -28,11 +27,10 @@ use Rattle.records.proofs.Recorded.{refused-settings, not-refused}
 use Rattle.tickets.specs.Tickets as Of
 use Rattle.tickets.specs.Tickets.{is_spent, ticket_for, after_ask, commits}
 use Rattle.tickets.proofs.Laws.{asked-commits, asked-step}
-use Rattle.asks.specs.declared.Tickets.{Tickets}
 use Rattle.asks.specs.declared.Ticketed.{Ticketed}
 use Rattle.asks.specs.declared.Asked.{Asked}
-use Rattle.asks.specs.Asking.{tickets_of, tickets_in, step_of, answer_before, outcome_after, ask_outcome, asked_record, Asks, commit_answer}
-use Rattle.asks.specs.Asking.{committed_replica, committed}
+use Rattle.asks.specs.Asking.{tickets_of, step_of, answer_before, outcome_after, ask_outcome, asked_record, Asks}
+use Rattle.asks.specs.Asking.{committed}
 use Rattle.asks.specs.AskThenCommit.{outcome_of, SameAsStep, AskThenCommit}
 use Rattle.asks.proofs.AskLaws.{before-refused, before-done}
 

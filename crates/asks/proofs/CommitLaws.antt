@@ -1,12 +1,11 @@
 -- What a commit gives, case by case. Assumes nothing.
-use mathlib.Core.Path.{◌≡◌, refl, sym, ap, ◌∙◌}
-use mathlib.Core.Bool.{Bool, true, false}
+use mathlib.Core.Path.{◌≡◌, sym, ap, ◌∙◌}
+use mathlib.Core.Bool.{true, false}
 use Prim.Native.Nat.{ℕ}
-use Rattle.lists.specs.Choice.{pick}
 use Rattle.lists.proofs.Choice.{pick_true, pick-false}
-use Rattle.scram.specs.Answers.{Answered, Done, Refused}
+use Rattle.scram.specs.Answers.{Done, Refused}
 use Rattle.replica.specs.declared.Replica.{Replica}
-use Rattle.tickets.specs.Tickets.{commits, voided, after_commit}
+use Rattle.tickets.specs.Tickets.{commits, voided}
 use Rattle.tickets.proofs.Laws.{commit-made, commit-refused}
 use Rattle.asks.specs.declared.Tickets.{Tickets}
 use Rattle.asks.specs.declared.Ticketed.{Ticketed}

@@ -1,13 +1,12 @@
 -- What recording answers and writes: callers need not open the definitions. Assumes nothing.
 use mathlib.Core.Path.{◌≡◌, refl, sym, ◌∙◌}
 use mathlib.Core.Bool.{Bool, true, false}
-use mathlib.Core.List.{List, [], ◌∷◌, ◌++◌}
+use mathlib.Core.List.{[], ◌∷◌}
 use Prim.Native.Nat.{ℕ, ◌≤◌}
 use native.Mathlib.Omega.{arith}
 use lib.Dec.{lit≤, eqb, ltb}
 use borrow.Author.Tests.{eqb-true, eqb-false, eq-eqb, ne_eqb, ltb-false}
-use Rattle.lists.specs.Choice.{pick}
-use Rattle.lists.specs.Refusals.{Refusal, refusal, first_of}
+use Rattle.lists.specs.Refusals.{first_of}
 use Rattle.lists.proofs.Choice.{pick_true, pick-false}
 use Rattle.lists.proofs.Refusals.{first_holds, first-fails, none-holds, refused-first, then-passed}
 use Rattle.scram.specs.Answers.{Done, Refused}

@@ -15,7 +15,6 @@ use Rattle.readings.specs.declared.Readings.{Readings}
 use Rattle.readings.specs.Readings.{normalised}
 use Rattle.readings.proofs.Normalised.{normalised-twice, normalised-none}
 use Rattle.scram.specs.declared.Kind.{Kind}
-use Rattle.scram.specs.declared.Kind.TheVariants as Kind
 use Rattle.scram.specs.Held as Scram
 use Rattle.scram.specs.Held.{Group, Held, Message}
 use Rattle.scram.specs.Events as Events

@@ -1,5 +1,4 @@
 -- `records::conditions::bytes_mean` meets its contract. Assumes nothing.
-use borrow.Author.Rules.{rules}
 use Rattle.records.specs.Reading.{bytes_mean}
 use Rattle.records.proofs.conditions.bytes_mean.Goals as goal
 

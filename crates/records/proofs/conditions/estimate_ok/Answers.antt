@@ -1,7 +1,5 @@
 -- `records::conditions::estimate_ok` meets its contract. Assumes nothing.
 use mathlib.Core.Path.{sym, ◌∙◌}
-use borrow.Author.Rules.{rules}
-use borrow.Author.Tests.{not-true, not-false}
 use Rattle.records.specs.Reading.{estimate_ok, values_ok}
 use Rattle.records.proofs.conditions.estimate_ok.Goals as goal
 

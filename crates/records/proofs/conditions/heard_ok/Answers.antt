@@ -2,7 +2,7 @@
 use mathlib.Core.Path.{◌≡◌, refl, sym, ap, ap₂, ◌∙◌}
 use mathlib.Core.Bool.{Bool, true, false, not, ◌&&◌, ◌||◌, and-true, or-false}
 use mathlib.Core.List.{List}
-use Prim.Native.Nat.{ℕ, zero, suc, ◌-◌, ◌+◌, ◌≤◌, ◌<◌}
+use Prim.Native.Nat.{ℕ, zero, suc, ◌+◌, ◌≤◌, ◌<◌}
 use native.Mathlib.Omega.{arith}
 use lib.Bits.{bit_or}
 use lib.ListN.{get_or}
@@ -85,9 +85,10 @@ loop-j-preserved c =
     let q = looked c.args.boxes c.args.bytes.now c.requires.1 l.j l.bits e in (
       omega arith,
       omega arith,
-      elim c.if-last-j.branch
-        [ then-last-j w ↦ ap (λ (x : ℕ). eqb x 0) w.bits-is ∙ q (omega arith) w.if-last-j.true
-        | else-last-j w ↦ ap (λ (x : ℕ). eqb x 0) w.bits-is ∙ p l.invariant.0 w.if-last-j.false ],
+      elim c.if-last-j.branch [
+        | then-last-j w ↦ ap (λ (x : ℕ). eqb x 0) w.bits-is ∙ q (omega arith) w.if-last-j.true
+        | else-last-j w ↦ ap (λ (x : ℕ). eqb x 0) w.bits-is ∙ p l.invariant.0 w.if-last-j.false
+      ],
     )
 
 pub returns : goal.returns

@@ -4,8 +4,6 @@ use mathlib.Core.Bool.{true, ◌&&◌}
 use native.Mathlib.Omega.{arith}
 use lib.ListN.{get_or}
 use lib.Dec.{leb}
-use borrow.Author.Rules.{rules}
-use borrow.Author.Tests.{not-true, not-false}
 use Rattle.estimate.specs.Marks.{marks_below}
 use Rattle.records.specs.Lengths.{settings_length}
 use Rattle.records.specs.HeldPart.{held_at}
@@ -21,15 +19,15 @@ returns-then-not-bytes_mean c =
 pub heard_ok-requires : goal.heard_ok-requires
 heard_ok-requires c =
     let mean : bytes_mean c.args.bytes.now ≡ true =
-      sym c.bytes_mean.ensures ∙ c.if-not-bytes_mean.false in
+    sym c.bytes_mean.ensures ∙ c.if-not-bytes_mean.false in
     (c.requires.0, mean)
 
 pub returns-then-not-heard_ok : goal.returns-then-not-heard_ok
 unfolding held_at
 returns-then-not-heard_ok c =
     let heard : let a = c.args in
-      c.heard_ok.result ≡ heard_ok a.boxes (held_at a.bytes.now settings_length).heard =
-      c.heard_ok.ensures in
+    c.heard_ok.result ≡ heard_ok a.boxes (held_at a.bytes.now settings_length).heard =
+    c.heard_ok.ensures in
     let a = c.args in
     no-heard a.boxes a.n a.m a.bytes.now (sym heard ∙ c.if-not-heard_ok.true)
 
@@ -37,13 +35,13 @@ pub returns-then-not-own_ok : goal.returns-then-not-own_ok
 unfolding held_at
 returns-then-not-own_ok c =
     let own : let a = c.args in c.own_ok.result ≡ own_parts a.boxes a.n a.m a.bytes.now =
-      let a = c.args in
-      let view = c.u32_at-view.ensures in
-      let period = c.u32_at-period.ensures in
-      c.own_ok.ensures
-      ∙ (λ i. marks_below a.m (get_or a.bytes.now 548 0)
-      && (leb (c.u32_at.ensures i) (view i)
-      && (leb (c.u32_at-2.ensures i) (period i) && estimate_ok a.n (c.estimate_at-own.ensures i)))) in
+    let a = c.args in
+    let view = c.u32_at-view.ensures in
+    let period = c.u32_at-period.ensures in
+    c.own_ok.ensures
+    ∙ (λ i. marks_below a.m (get_or a.bytes.now 548 0)
+    && (leb (c.u32_at.ensures i) (view i)
+    && (leb (c.u32_at-2.ensures i) (period i) && estimate_ok a.n (c.estimate_at-own.ensures i)))) in
     let a = c.args in
     no_own a.boxes a.n a.m a.bytes.now (sym own ∙ c.if-not-own_ok.true)
 
@@ -51,18 +49,18 @@ pub returns-then-bytes-eq0 : goal.returns-then-bytes-eq0
 unfolding held_at
 returns-then-bytes-eq0 c =
     let mean : bytes_mean c.args.bytes.now ≡ true =
-      sym c.bytes_mean.ensures ∙ c.if-not-bytes_mean.false in
+    sym c.bytes_mean.ensures ∙ c.if-not-bytes_mean.false in
     let heard : let a = c.args in
-      c.heard_ok.result ≡ heard_ok a.boxes (held_at a.bytes.now settings_length).heard =
-      c.heard_ok.ensures in
+    c.heard_ok.result ≡ heard_ok a.boxes (held_at a.bytes.now settings_length).heard =
+    c.heard_ok.ensures in
     let own : let a = c.args in c.own_ok.result ≡ own_parts a.boxes a.n a.m a.bytes.now =
-      let a = c.args in
-      let view = c.u32_at-view.ensures in
-      let period = c.u32_at-period.ensures in
-      c.own_ok.ensures
-      ∙ (λ i. marks_below a.m (get_or a.bytes.now 548 0)
-      && (leb (c.u32_at.ensures i) (view i)
-      && (leb (c.u32_at-2.ensures i) (period i) && estimate_ok a.n (c.estimate_at-own.ensures i)))) in
+    let a = c.args in
+    let view = c.u32_at-view.ensures in
+    let period = c.u32_at-period.ensures in
+    c.own_ok.ensures
+    ∙ (λ i. marks_below a.m (get_or a.bytes.now 548 0)
+    && (leb (c.u32_at.ensures i) (view i)
+    && (leb (c.u32_at-2.ensures i) (period i) && estimate_ok a.n (c.estimate_at-own.ensures i)))) in
     let a = c.args in
     c.zero_at.ensures
     ∙ without-best a.boxes a.n a.m a.bytes.now mean (sym heard ∙ c.if-not-heard_ok.false)
@@ -78,27 +76,27 @@ pub returns : goal.returns
 unfolding held_at
 returns c =
     let mean : bytes_mean c.args.bytes.now ≡ true =
-      sym c.bytes_mean.ensures ∙ c.if-not-bytes_mean.false in
+    sym c.bytes_mean.ensures ∙ c.if-not-bytes_mean.false in
     let heard : let a = c.args in
-      c.heard_ok.result ≡ heard_ok a.boxes (held_at a.bytes.now settings_length).heard =
-      c.heard_ok.ensures in
+    c.heard_ok.result ≡ heard_ok a.boxes (held_at a.bytes.now settings_length).heard =
+    c.heard_ok.ensures in
     let own : let a = c.args in c.own_ok.result ≡ own_parts a.boxes a.n a.m a.bytes.now =
-      let a = c.args in
-      let view = c.u32_at-view.ensures in
-      let period = c.u32_at-period.ensures in
-      c.own_ok.ensures
-      ∙ (λ i. marks_below a.m (get_or a.bytes.now 548 0)
-      && (leb (c.u32_at.ensures i) (view i)
-      && (leb (c.u32_at-2.ensures i) (period i) && estimate_ok a.n (c.estimate_at-own.ensures i)))) in
+    let a = c.args in
+    let view = c.u32_at-view.ensures in
+    let period = c.u32_at-period.ensures in
+    c.own_ok.ensures
+    ∙ (λ i. marks_below a.m (get_or a.bytes.now 548 0)
+    && (leb (c.u32_at.ensures i) (view i)
+    && (leb (c.u32_at-2.ensures i) (period i) && estimate_ok a.n (c.estimate_at-own.ensures i)))) in
     let other : let a = c.args in
-      c.other_ok.result ≡ other_parts a.boxes a.n a.m a.bytes.now =
-      let a = c.args in
-      let best = c.best_at-best.ensures in
-      c.other_ok.ensures
-      ∙ (λ i. is_box a.boxes (best i).box_number
-      && (marks_below a.m (get_or a.bytes.now 599 0)
-      && (leb (best i).base_view (c.u32_at-view.ensures i)
-      && (leb (best i).base_period (c.u32_at-period.ensures i) && estimate_ok a.n (best i).estimate)))) in
+    c.other_ok.result ≡ other_parts a.boxes a.n a.m a.bytes.now =
+    let a = c.args in
+    let best = c.best_at-best.ensures in
+    c.other_ok.ensures
+    ∙ (λ i. is_box a.boxes (best i).box_number
+    && (marks_below a.m (get_or a.bytes.now 599 0)
+    && (leb (best i).base_view (c.u32_at-view.ensures i)
+    && (leb (best i).base_period (c.u32_at-period.ensures i) && estimate_ok a.n (best i).estimate)))) in
     let a = c.args in
     other
     ∙ with-best a.boxes a.n a.m a.bytes.now mean (sym heard ∙ c.if-not-heard_ok.false)

@@ -1,16 +1,11 @@
 -- `records::conditions::joined` meets its contract. The loop's invariant: it does so for the first i bytes. Assumes nothing.
-use mathlib.Core.Path.{◌≡◌, sym, ap, ◌∙◌}
-use mathlib.Core.Bool.{Bool, ◌&&◌}
+use mathlib.Core.Path.{◌≡◌}
+use mathlib.Core.Bool.{Bool}
 use mathlib.Core.List.{List}
 use Prim.Native.Nat.{ℕ, ◌+◌, ◌-◌, ◌^◌, ◌≤◌}
-use native.Mathlib.Omega.{arith}
 use lib.ListN.{get_or}
 use lib.Dec.{ltb}
-use lib.Pow.{pow_pos}
-use borrow.Author.Tests.{lt-ltb}
 use Rattle.lists.specs.Below.{all_below}
-use Rattle.lists.proofs.Below.{all_none, all-next}
-use Rattle.records.proofs.Joined.{or-below}
 use Rattle.records.proofs.conditions.joined.Given as goal
 
 abbrev pub test : List ℕ → ℕ → ℕ → ℕ → Bool

@@ -1,5 +1,4 @@
 -- `records::conditions::layout_ok` meets its contract. Assumes nothing.
-use borrow.Author.Rules.{rules}
 use borrow.Author.Tests.{eq-eqb, ne_eqb}
 use Rattle.records.specs.Reading.{layout_ok}
 use Rattle.records.proofs.conditions.layout_ok.Goals as goal

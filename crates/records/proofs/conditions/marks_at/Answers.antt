@@ -2,7 +2,6 @@
 use mathlib.Core.Path.{sym, ◌∙◌}
 use Prim.Native.Nat.{◌+◌}
 use lib.ListN.{get_or}
-use borrow.Author.Rules.{rules}
 use Rattle.records.proofs.Joined.{below_two, all_same}
 use Rattle.records.proofs.conditions.marks_at.Goals as goal
 

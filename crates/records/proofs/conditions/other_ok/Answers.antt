@@ -1,7 +1,6 @@
 -- `records::conditions::other_ok` meets its contract. Assumes nothing.
 use mathlib.Core.Path.{sym, ◌∙◌}
-use borrow.Author.Rules.{rules}
-use borrow.Author.Tests.{not-true, not-false, le-leb, lt-leb}
+use borrow.Author.Tests.{le-leb, lt-leb}
 use Rattle.records.proofs.HeldOk.{stop, next}
 use Rattle.records.proofs.conditions.other_ok.Goals as goal
 

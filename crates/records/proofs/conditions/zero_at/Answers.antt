@@ -2,7 +2,6 @@
 use mathlib.Core.Path.{sym, ◌∙◌}
 use Prim.Native.Nat.{◌+◌}
 use lib.ListN.{get_or}
-use borrow.Author.Rules.{rules}
 use Rattle.records.specs.Reading.{zero_at}
 use Rattle.records.proofs.Joined.{below_one, all_same}
 use Rattle.records.proofs.conditions.zero_at.Goals as goal

@@ -1,7 +1,6 @@
 -- `records::held_part::best_at` meets its contract: each field is read at its offset. Assumes nothing.
 use Prim.Native.Nat.{◌+◌}
 use lib.ListN.{get_or}
-use borrow.Author.Rules.{rules}
 use Rattle.records.specs.HeldPart.{best_at}
 use Rattle.records.proofs.held_part.best_at.Goals as goal
 

@@ -3,11 +3,10 @@
 use mathlib.Core.Path.{◌≡◌, sym, ap₂, ◌∙◌}
 use mathlib.Core.Bool.{Bool, false}
 use mathlib.Core.List.{List}
-use Prim.Native.Nat.{◌+◌, ◌-◌, ◌≤◌, ◌<◌}
+use Prim.Native.Nat.{◌+◌, ◌<◌}
 use native.Mathlib.Omega.{arith}
 use lib.ListN.{set}
 use borrow.Author.Rules.{rules}
-use Rattle.lists.specs.Places.{filled}
 use Rattle.lists.proofs.Places.{filled_none, filled_more}
 use Rattle.records.specs.HeldPart.{mark_at, heard_at}
 use Rattle.records.proofs.held_part.heard_at.Goals as goal

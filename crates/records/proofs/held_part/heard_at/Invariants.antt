@@ -1,15 +1,10 @@
 -- `records::held_part::heard_at` meets its contract. The loop's invariant: the first j places hold their marks and the others none. The measure is
 -- the number of places left. Assumes nothing.
-use mathlib.Core.Path.{◌≡◌, sym, ap₂, ◌∙◌}
-use mathlib.Core.Bool.{Bool, false}
-use mathlib.Core.List.{List}
-use Prim.Native.Nat.{◌+◌, ◌-◌, ◌≤◌, ◌<◌}
-use native.Mathlib.Omega.{arith}
-use lib.ListN.{set}
-use borrow.Author.Rules.{rules}
+use mathlib.Core.Path.{◌≡◌}
+use mathlib.Core.Bool.{false}
+use Prim.Native.Nat.{◌+◌, ◌-◌, ◌≤◌}
 use Rattle.lists.specs.Places.{filled}
-use Rattle.lists.proofs.Places.{filled_none, filled_more}
-use Rattle.records.specs.HeldPart.{mark_at, heard_at}
+use Rattle.records.specs.HeldPart.{mark_at}
 use Rattle.records.proofs.held_part.heard_at.Given as goal
 
 abbrev pub invariant-loop-j : goal.invariant-loop-j

@@ -1,5 +1,4 @@
 -- `records::held_part::held_at` meets its contract: each field is read at its offset. Assumes nothing.
-use borrow.Author.Rules.{rules}
 use Rattle.records.specs.HeldPart.{held_at}
 use Rattle.records.proofs.held_part.held_at.Goals as goal
 

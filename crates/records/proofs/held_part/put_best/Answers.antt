@@ -16,9 +16,9 @@ pub returns : goal.returns
 unfolding best_bytes little_endian
 returns c =
     let six : length c.args.best.estimate.state ≡ 6 =
-      search rules in
+    search rules in
     let four : length c.args.best.estimate.readings.values ≡ 4 =
-      search rules in
+    search rules in
     let mark = c.mark_byte in
     let l = c.args.area.now in
     let at = c.args.at in

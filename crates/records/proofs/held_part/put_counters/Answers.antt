@@ -4,7 +4,6 @@ use Prim.Native.Nat.{◌+◌}
 use native.Mathlib.Omega.{arith}
 use Rattle.octets.specs.Words.{little_endian}
 use Rattle.octets.proofs.Areas.{then-put}
-use borrow.Author.Rules.{rules}
 use Rattle.records.proofs.held_part.put_counters.Goals as goal
 
 pub returns : goal.returns

@@ -1,14 +1,12 @@
 -- `records::held_part::put_heard` meets its contract. The loop's invariant: the bytes of the first j places stand in the area. The measure is the
 -- number of places left. Assumes nothing.
 use mathlib.Core.Path.{◌≡◌, refl, ◌∙◌}
-use Prim.Native.Nat.{◌-◌, ◌≤◌, ◌<◌}
+use Prim.Native.Nat.{◌<◌}
 use native.Mathlib.Omega.{arith}
-use lib.ListN.{length, take, length-set}
+use lib.ListN.{length, length-set}
 use lib.Seq.{take_all}
 use borrow.Author.Rules.{rules}
-use Rattle.octets.specs.Areas.{put}
 use Rattle.octets.proofs.Areas.{put-nothing}
-use Rattle.records.specs.HeldPart.{heard_bytes}
 use Rattle.records.proofs.Heard.{heard-more}
 use Rattle.records.proofs.held_part.put_heard.Goals as goal
 
@@ -18,7 +16,7 @@ loop-j-init c = (search rules, put-nothing c.args.area.now c.args.at, refl)
 pub loop-j-preserved : goal.loop-j-preserved
 loop-j-preserved c =
     let ten : length c.args.heard ≡ 10 =
-      search rules in
+    search rules in
     let l = c.loop-j in
     let h : l.j < 10 = omega arith in (
       omega arith,
@@ -30,6 +28,6 @@ loop-j-preserved c =
 pub returns : goal.returns
 returns c =
     let ten : length c.args.heard ≡ 10 =
-      search rules in
+    search rules in
     let l = c.loop-j in
     l.invariant.1 ∙ rw (take_all l.j c.args.heard (omega (arith, ten)))

@@ -1,15 +1,10 @@
 -- `records::held_part::put_heard` meets its contract. The loop's invariant: the bytes of the first j places stand in the area. The measure is the
 -- number of places left. Assumes nothing.
-use mathlib.Core.Path.{◌≡◌, refl, ◌∙◌}
-use Prim.Native.Nat.{◌-◌, ◌≤◌, ◌<◌}
-use native.Mathlib.Omega.{arith}
-use lib.ListN.{length, take, length-set}
-use lib.Seq.{take_all}
-use borrow.Author.Rules.{rules}
+use mathlib.Core.Path.{◌≡◌}
+use Prim.Native.Nat.{◌-◌, ◌≤◌}
+use lib.ListN.{length, take}
 use Rattle.octets.specs.Areas.{put}
-use Rattle.octets.proofs.Areas.{put-nothing}
 use Rattle.records.specs.HeldPart.{heard_bytes}
-use Rattle.records.proofs.Heard.{heard-more}
 use Rattle.records.proofs.held_part.put_heard.Given as goal
 
 abbrev pub invariant-loop-j : goal.invariant-loop-j

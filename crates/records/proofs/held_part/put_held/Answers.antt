@@ -16,15 +16,15 @@ pub returns : goal.returns
 unfolding held_bytes little_endian
 returns c =
     let ten : length c.args.held.heard ≡ 10 =
-      search rules in
+    search rules in
     let six : length c.args.held.estimate.state ≡ 6 =
-      search rules in
+    search rules in
     let four : length c.args.held.estimate.readings.values ≡ 4 =
-      search rules in
+    search rules in
     let best-six : length c.args.held.best.estimate.state ≡ 6 =
-      search rules in
+    search rules in
     let best-four : length c.args.held.best.estimate.readings.values ≡ 4 =
-      search rules in
+    search rules in
     let l = c.args.area.now in
     let at = c.args.at in
     let h = c.args.held in

@@ -5,7 +5,6 @@ use Prim.Native.Nat.{ℕ, ◌+◌}
 use native.Mathlib.Omega.{arith}
 use Rattle.octets.specs.Areas.{put}
 use Rattle.octets.proofs.Areas.{then-put}
-use borrow.Author.Rules.{rules}
 use Rattle.records.proofs.held_part.put_marks.Goals as goal
 
 pub returns : goal.returns

@@ -1,7 +1,6 @@
 -- `records::reading::settings_refusal_of` meets its contract: the law does not look at the starting state. Assumes nothing.
 use mathlib.Core.Path.{◌∙◌}
 use Rattle.law.proofs.Lent.{refusal-lent}
-use borrow.Author.Rules.{rules}
 use Rattle.records.proofs.reading.settings_refusal_of.Goals as goal
 
 pub returns : goal.returns

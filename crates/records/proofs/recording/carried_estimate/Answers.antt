@@ -1,6 +1,5 @@
 -- `records::recording::carried_estimate` meets its contract. Assumes nothing.
 use Rattle.estimate.specs.Fields.{carried_estimate}
-use borrow.Author.Rules.{rules}
 use Rattle.records.proofs.recording.carried_estimate.Goals as goal
 
 pub returns : goal.returns

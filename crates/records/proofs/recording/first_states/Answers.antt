@@ -2,7 +2,7 @@
 -- nothing.
 use mathlib.Core.Path.{◌≡◌, refl, sym, ◌∙◌}
 use mathlib.Core.List.{List}
-use Prim.Native.Nat.{ℕ, ◌-◌, ◌+◌, ◌≤◌, ◌<◌}
+use Prim.Native.Nat.{ℕ, ◌+◌, ◌≤◌, ◌<◌}
 use native.Mathlib.Omega.{arith}
 use native.Mathlib.Decide.{dec_le}
 use borrow.Author.Rules.{rules}
@@ -25,6 +25,7 @@ clear n i before states low high c = record {
     by : (j : ℕ) → n ≤ j → j < i + 1 → Dec (i ≤ j) → entry (set states i (pos 0)) j ≡ pos 0
     by j l h (yes e) = let q : j ≡ i = omega arith in rw q (get_or-set_same states i (pos 0) (pos 0) (omega (arith, c.long)))
     by j l h (no d) = get_or-set_other states i j (pos 0) (pos 0) (λ (e : j ≡ i). omega arith) ∙ c.rest j l (omega arith)
+
 -- all places are cleared
 cleared : (n i : ℕ) (before states : List ℤ) → 6 ≤ i → Cleared n before i states → states ≡ filled (pos 0) 6 n (entry before)
 cleared n i before states last c =

@@ -1,16 +1,11 @@
 -- `records::recording::first_states` meets its contract. The loop's invariant: the first n places are as they were, and those from n to i are 0. Assumes
 -- nothing.
-use mathlib.Core.Path.{◌≡◌, refl, sym, ◌∙◌}
+use mathlib.Core.Path.{◌≡◌}
 use mathlib.Core.List.{List}
-use Prim.Native.Nat.{ℕ, ◌-◌, ◌+◌, ◌≤◌, ◌<◌}
-use native.Mathlib.Omega.{arith}
-use native.Mathlib.Decide.{dec_le}
-use borrow.Author.Rules.{rules}
-use lib.ListN.{length, set, length-set}
-use lib.Seq.{ext_get_or, get_or-set_same, get_or-set_other}
+use Prim.Native.Nat.{ℕ, ◌-◌, ◌≤◌, ◌<◌}
+use lib.ListN.{length}
 use lib.IntN.{ℤ, pos}
-use Rattle.lists.specs.Places.{entry, filled}
-use Rattle.lists.proofs.Places.{filled-length, filled_at, filled-beyond}
+use Rattle.lists.specs.Places.{entry}
 use Rattle.records.proofs.recording.first_states.Given as goal
 
 -- the first n places are as they were, and those from n to i are 0

@@ -1,5 +1,4 @@
 -- `records::recording::no_best` meets its contract. Assumes nothing.
-use borrow.Author.Rules.{rules}
 use Rattle.records.proofs.recording.no_best.Goals as goal
 
 pub returns : goal.returns

@@ -1,6 +1,5 @@
 -- `records::recording::recorded_best` meets its contract. Assumes nothing.
 use mathlib.Core.Path.{sym, ap, ◌∙◌}
-use borrow.Author.Rules.{rules}
 use borrow.Author.Tests.{not-true, not-false}
 use Rattle.lists.proofs.Choice.{pick_true, pick-false}
 use Rattle.estimate.specs.declared.Estimate.{Estimate}

@@ -1,5 +1,4 @@
 -- `records::recording::recorded_held` meets its contract. Assumes nothing.
-use borrow.Author.Rules.{rules}
 use Rattle.records.specs.Recording.{recorded_held}
 use Rattle.records.proofs.recording.recorded_held.Goals as goal
 

@@ -1,6 +1,5 @@
 -- `records::recording::refusal` meets its contract. Assumes nothing.
 use mathlib.Core.Path.{◌≡◌, sym, ◌∙◌}
-use borrow.Author.Rules.{rules}
 use borrow.Author.Tests.{lt-ltb, le-ltb}
 use Rattle.replica.specs.Settings.{settings_refusal}
 use Rattle.records.proofs.Recorded.{refused-settings, refused-short, not-refused}
@@ -15,11 +14,11 @@ returns-then-number-ne0 c =
 pub returns-then-area-lt-RECORD : goal.returns-then-area-lt-RECORD
 returns-then-area-lt-RECORD c =
     let pass : settings_refusal c.args.settings ≡ 0 =
-      sym c.settings_refusal_of-number.ensures ∙ c.if-number-ne0.false in
+    sym c.settings_refusal_of-number.ensures ∙ c.if-number-ne0.false in
     let s = c.args in refused-short s.settings s.area (pass) (lt-ltb _ _ c.if-area-lt-RECORD.true)
 
 pub returns : goal.returns
 returns c =
     let pass : settings_refusal c.args.settings ≡ 0 =
-      sym c.settings_refusal_of-number.ensures ∙ c.if-number-ne0.false in
+    sym c.settings_refusal_of-number.ensures ∙ c.if-number-ne0.false in
     let s = c.args in not-refused s.settings s.area (pass) (le-ltb _ _ c.if-area-lt-RECORD.false)

@@ -45,16 +45,16 @@ returns-then-number-ne0 c =
 pub put_settings-requires : goal.put_settings-requires
 put_settings-requires c =
     let pass : record_refusal c.args.replica.settings (length c.args.area.now) ≡ 0 =
-      sym c.refusal-number.ensures ∙ c.if-number-ne0.false in
+    sym c.refusal-number.ensures ∙ c.if-number-ne0.false in
     let left : Ready c.args.replica.settings (length c.args.area.now) =
-      ready _ _ (pass) in
+    ready _ _ (pass) in
     let sizes : let law = c.args.replica.settings.law in Sizes law.n law.m law.p =
-      sizes-accepted _ (accepted _ (left).settings).law in
+    sizes-accepted _ (accepted _ (left).settings).law in
     let quorums : let q = c.args.replica.settings.quorums in (q.to_decide ≤ 9) × (q.to_propose ≤ 9) =
-      let a = accepted _ (left).settings in
-      let few = a.group.N9 in
-      let s = stand _ _ a.quorums in
-      (omega (arith, few, s.a_n), omega (arith, few, s.b_n)) in
+    let a = accepted _ (left).settings in
+    let few = a.group.N9 in
+    let s = stand _ _ a.quorums in
+    (omega (arith, few, s.a_n), omega (arith, few, s.b_n)) in
     let z = sizes in
     let q = quorums in
     let a = q.0 in
@@ -65,32 +65,32 @@ put_settings-requires c =
 pub recorded_held-held-requires : goal.recorded_held-held-requires
 recorded_held-held-requires c =
     let pass : record_refusal c.args.replica.settings (length c.args.area.now) ≡ 0 =
-      sym c.refusal-number.ensures ∙ c.if-number-ne0.false in
+    sym c.refusal-number.ensures ∙ c.if-number-ne0.false in
     let left : Ready c.args.replica.settings (length c.args.area.now) =
-      ready _ _ (pass) in
+    ready _ _ (pass) in
     let sizes : let law = c.args.replica.settings.law in Sizes law.n law.m law.p =
-      sizes-accepted _ (accepted _ (left).settings).law in
+    sizes-accepted _ (accepted _ (left).settings).law in
     (sizes).n6
 
 pub put_held-requires : goal.put_held-requires
 put_held-requires c =
     let pass : record_refusal c.args.replica.settings (length c.args.area.now) ≡ 0 =
-      sym c.refusal-number.ensures ∙ c.if-number-ne0.false in
+    sym c.refusal-number.ensures ∙ c.if-number-ne0.false in
     let left : Ready c.args.replica.settings (length c.args.area.now) =
-      ready _ _ (pass) in
+    ready _ _ (pass) in
     let room = (left).room in omega arith
 
 pub returns : goal.returns
 unfolding record_bytes
 returns c =
     let tables : TypedTables c.args.replica.settings.law =
-      owned c.args.replica.settings.law _ c.well_formed.0.1.1.0.1.1.1.1.1.0 in
+    owned c.args.replica.settings.law _ c.well_formed.0.1.1.0.1.1.1.1.1.0 in
     let ten : length c.args.replica.held.heard ≡ 10 =
-      search rules in
+    search rules in
     let pass : record_refusal c.args.replica.settings (length c.args.area.now) ≡ 0 =
-      sym c.refusal-number.ensures ∙ c.if-number-ne0.false in
+    sym c.refusal-number.ensures ∙ c.if-number-ne0.false in
     let left : Ready c.args.replica.settings (length c.args.area.now) =
-      ready _ _ (pass) in
+    ready _ _ (pass) in
     let r = c.args.replica in
     let l = c.args.area.now in
     let d = record-done r (length l) (pass) in

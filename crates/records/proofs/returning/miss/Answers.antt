@@ -1,6 +1,5 @@
 -- `returning::miss` meets its contract. Assumes nothing.
 use mathlib.Core.Path.{ap, ◌∙◌}
-use borrow.Author.Rules.{rules}
 use Rattle.readings.specs.declared.Readings.{Readings}
 use Rattle.scram.specs.Shown.{is_refused}
 use Rattle.frame.specs.Lengths.{longest_frame, longest_command}

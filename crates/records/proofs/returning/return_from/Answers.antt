@@ -1,7 +1,6 @@
 -- `returning::return_from` meets its contract. Assumes nothing.
 use mathlib.Core.Path.{◌≡◌, sym, ap, ◌∙◌}
 use mathlib.Core.Bool.{true, false}
-use borrow.Author.Rules.{rules}
 use borrow.Author.Tests.{not-true, not-false}
 use Rattle.records.specs.Reading.{is_done, is_record, replica_in}
 use Rattle.records.specs.Returning.{misses_too_many, stayed_up}
@@ -22,12 +21,12 @@ returns-then-not-is_done c =
 pub returns-then-not-is_done-2 : goal.returns-then-not-is_done-2
 returns-then-not-is_done-2 c =
     let record-read : is_record c.args.bytes.now ≡ true =
-      let a = c.args in
-      let r = c.read-parsed in
-      sym (read-is-done a.bytes.now) ∙ ap is_done (sym r.ensures.answer) ∙ sym c.is_done.ensures ∙ c.if-not-is_done.false in
+    let a = c.args in
+    let r = c.read-parsed in
+    sym (read-is-done a.bytes.now) ∙ ap is_done (sym r.ensures.answer) ∙ sym c.is_done.ensures ∙ c.if-not-is_done.false in
     let replica-read : c.read-parsed.result.replica ≡ replica_in c.args.bytes.now =
-      let a = c.args in
-      c.read-parsed.ensures.replica ∙ (read_done a.bytes.now (record-read)).1 in
+    let a = c.args in
+    c.read-parsed.ensures.replica ∙ (read_done a.bytes.now (record-read)).1 in
     let a = c.args in
     let s = c.stay_up-stayed in
     let r = c.read-parsed.result.replica in
@@ -39,12 +38,12 @@ returns-then-not-is_done-2 c =
 pub returns : goal.returns
 returns c =
     let record-read : is_record c.args.bytes.now ≡ true =
-      let a = c.args in
-      let r = c.read-parsed in
-      sym (read-is-done a.bytes.now) ∙ ap is_done (sym r.ensures.answer) ∙ sym c.is_done.ensures ∙ c.if-not-is_done.false in
+    let a = c.args in
+    let r = c.read-parsed in
+    sym (read-is-done a.bytes.now) ∙ ap is_done (sym r.ensures.answer) ∙ sym c.is_done.ensures ∙ c.if-not-is_done.false in
     let replica-read : c.read-parsed.result.replica ≡ replica_in c.args.bytes.now =
-      let a = c.args in
-      c.read-parsed.ensures.replica ∙ (read_done a.bytes.now (record-read)).1 in
+    let a = c.args in
+    c.read-parsed.ensures.replica ∙ (read_done a.bytes.now (record-read)).1 in
     let a = c.args in
     let s = c.stay_up-stayed in
     let r = c.read-parsed.result.replica in

@@ -2,7 +2,6 @@
 use mathlib.Core.Path.{◌≡◌, refl, sym, ap, ◌∙◌}
 use Prim.Native.Nat.{ℕ, ◌-◌}
 use native.Mathlib.Omega.{arith}
-use borrow.Author.Rules.{rules}
 use Rattle.records.specs.Returning.{stayed_up, passes_largest}
 use Rattle.records.proofs.ReturningLaws.{passes-now, passes-later, up-later, passes_none, up_none, too_many, passing, not-many, stays-not, stays}
 use Rattle.records.proofs.returning.stay_up.Goals as goal

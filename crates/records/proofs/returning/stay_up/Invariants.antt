@@ -1,10 +1,6 @@
 -- `returning::stay_up` meets its contract: after each missed period, what is left is owed at the replica so far. Assumes nothing.
-use mathlib.Core.Path.{◌≡◌, refl, sym, ap, ◌∙◌}
-use Prim.Native.Nat.{ℕ, ◌-◌}
-use native.Mathlib.Omega.{arith}
-use borrow.Author.Rules.{rules}
+use mathlib.Core.Path.{◌≡◌}
 use Rattle.records.specs.Returning.{stayed_up, passes_largest}
-use Rattle.records.proofs.ReturningLaws.{passes-now, passes-later, up-later, passes_none, up_none, too_many, passing, not-many, stays-not, stays}
 use Rattle.records.proofs.returning.stay_up.Given as goal
 
 abbrev pub invariant-loop-left : goal.invariant-loop-left

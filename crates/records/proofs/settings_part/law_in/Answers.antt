@@ -1,7 +1,6 @@
 -- `records::settings_part::law_in` meets its contract: each table is the one that the definition reads, and a byte fits a size. Assumes nothing.
 use native.Mathlib.Omega.{arith}
 use lib.ListN.{get_or}
-use borrow.Author.Rules.{rules}
 use Rattle.records.specs.SettingsPart.{law_in}
 use Rattle.records.proofs.settings_part.law_in.Goals as goal
 

@@ -1,7 +1,6 @@
 -- `records::settings_part::put_head` meets its contract: twice four bytes, one after the other. Assumes nothing.
 use mathlib.Core.Path.{refl}
 use mathlib.Core.List.{[], ◌∷◌}
-use borrow.Author.Rules.{rules}
 use Rattle.octets.proofs.Areas.{then-put}
 use Rattle.records.specs.SettingsPart.{letter, version, quorums_byte, head_bytes}
 use Rattle.records.proofs.settings_part.put_head.Goals as goal

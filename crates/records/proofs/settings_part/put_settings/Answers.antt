@@ -12,7 +12,7 @@ pub returns : goal.returns
 unfolding settings_bytes
 returns c =
     let tables-length : length (tables_bytes c.args.settings.law) ≡ 488 =
-      length-tables c.args.settings.law (record {
+    length-tables c.args.settings.law (record {
       a = search rules;
       l = search rules;
       c = search rules;
@@ -20,7 +20,7 @@ returns c =
       low = search rules;
       high = search rules;
       start = search rules;
-      }) in
+    }) in
     let g = c.args.settings in
     then-put c.args.area.now _ _ 0 8 (head_bytes g) (tables_bytes g.law) c.put_head.ensures c.put_tables.ensures
     (omega (arith, length-head g))

@@ -30,72 +30,72 @@ then-values {l} {i} {j} {xs} {l₁} w vs k e room l₂ more =
 pub put_values-requires-6 : goal.put_values-requires-6
 put_values-requires-6 c =
     let high-length : length c.args.law.high ≡ 4 =
-      search rules in
+    search rules in
     let kept1 : length c.put_values.new.area ≡ length c.args.area.now =
-      c.put_values.auto.area in
+    c.put_values.auto.area in
     let kept2 : length c.put_values-2.new.area ≡ length c.args.area.now =
-      c.put_values-2.auto.area ∙ kept1 in
+    c.put_values-2.auto.area ∙ kept1 in
     let kept3 : length c.put_values-3.new.area ≡ length c.args.area.now =
-      c.put_values-3.auto.area ∙ kept2 in
+    c.put_values-3.auto.area ∙ kept2 in
     let kept4 : length c.put_values-4.new.area ≡ length c.args.area.now =
-      c.put_values-4.auto.area ∙ kept3 in
+    c.put_values-4.auto.area ∙ kept3 in
     let kept5 : length c.put_values-5.new.area ≡ length c.args.area.now =
-      c.put_values-5.auto.area ∙ kept4 in
+    c.put_values-5.auto.area ∙ kept4 in
     omega (arith, c.requires, high-length, kept5)
 
 pub put_values-requires-7 : goal.put_values-requires-7
 put_values-requires-7 c =
     let start-length : length c.args.law.start ≡ 6 =
-      search rules in
+    search rules in
     let kept1 : length c.put_values.new.area ≡ length c.args.area.now =
-      c.put_values.auto.area in
+    c.put_values.auto.area in
     let kept2 : length c.put_values-2.new.area ≡ length c.args.area.now =
-      c.put_values-2.auto.area ∙ kept1 in
+    c.put_values-2.auto.area ∙ kept1 in
     let kept3 : length c.put_values-3.new.area ≡ length c.args.area.now =
-      c.put_values-3.auto.area ∙ kept2 in
+    c.put_values-3.auto.area ∙ kept2 in
     let kept4 : length c.put_values-4.new.area ≡ length c.args.area.now =
-      c.put_values-4.auto.area ∙ kept3 in
+    c.put_values-4.auto.area ∙ kept3 in
     let kept5 : length c.put_values-5.new.area ≡ length c.args.area.now =
-      c.put_values-5.auto.area ∙ kept4 in
+    c.put_values-5.auto.area ∙ kept4 in
     let kept6 : length c.put_values-6.new.area ≡ length c.args.area.now =
-      c.put_values-6.auto.area ∙ kept5 in
+    c.put_values-6.auto.area ∙ kept5 in
     omega (arith, c.requires, start-length, kept6)
 
 pub shape_of-area : goal.shape_of-area
 shape_of-area c =
     let kept1 : length c.put_values.new.area ≡ length c.args.area.now =
-      c.put_values.auto.area in
+    c.put_values.auto.area in
     let kept2 : length c.put_values-2.new.area ≡ length c.args.area.now =
-      c.put_values-2.auto.area ∙ kept1 in
+    c.put_values-2.auto.area ∙ kept1 in
     let kept3 : length c.put_values-3.new.area ≡ length c.args.area.now =
-      c.put_values-3.auto.area ∙ kept2 in
+    c.put_values-3.auto.area ∙ kept2 in
     let kept4 : length c.put_values-4.new.area ≡ length c.args.area.now =
-      c.put_values-4.auto.area ∙ kept3 in
+    c.put_values-4.auto.area ∙ kept3 in
     let kept5 : length c.put_values-5.new.area ≡ length c.args.area.now =
-      c.put_values-5.auto.area ∙ kept4 in
+    c.put_values-5.auto.area ∙ kept4 in
     let kept6 : length c.put_values-6.new.area ≡ length c.args.area.now =
-      c.put_values-6.auto.area ∙ kept5 in
+    c.put_values-6.auto.area ∙ kept5 in
     let kept7 : length c.put_values-7.new.area ≡ length c.args.area.now =
-      c.put_values-7.auto.area ∙ kept6 in
+    c.put_values-7.auto.area ∙ kept6 in
     kept7
 
 pub returns : goal.returns
 unfolding tables_bytes
 returns c =
     let a-length : length c.args.law.a ≡ 36 =
-      search rules in
+    search rules in
     let l-length : length c.args.law.l ≡ 24 =
-      search rules in
+    search rules in
     let c-length : length c.args.law.c ≡ 24 =
-      search rules in
+    search rules in
     let k-length : length c.args.law.k ≡ 24 =
-      search rules in
+    search rules in
     let low-length : length c.args.law.low ≡ 4 =
-      search rules in
+    search rules in
     let high-length : length c.args.law.high ≡ 4 =
-      search rules in
+    search rules in
     let start-length : length c.args.law.start ≡ 6 =
-      search rules in
+    search rules in
     let l = c.args.area.now in
     let law = c.args.law in
     let w₀ : Written l 8 8 [] l = record { same = put-nothing l 8; ends = refl } in

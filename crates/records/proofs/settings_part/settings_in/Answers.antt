@@ -1,6 +1,5 @@
 -- `records::settings_part::settings_in` meets its contract. Assumes nothing.
 use lib.ListN.{get_or}
-use borrow.Author.Rules.{rules}
 use Rattle.records.specs.SettingsPart.{settings_in}
 use Rattle.records.proofs.settings_part.settings_in.Goals as goal
 

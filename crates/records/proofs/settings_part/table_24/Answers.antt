@@ -3,7 +3,6 @@ use mathlib.Core.Path.{refl, ap, ◌∙◌}
 use mathlib.Core.List.{List}
 use Prim.Native.Nat.{ℕ}
 use lib.IntN.{pos}
-use borrow.Author.Rules.{rules}
 use Rattle.lists.specs.Places.{filled}
 use Rattle.octets.specs.Words.{value_at}
 use Rattle.octets.proofs.Areas.{part_of}

@@ -9,9 +9,9 @@ ghost use Rattle.records.specs.Reading.{layout_ok, states_ok, zero_at, is_box, b
 use crate::held_part::{best_at, estimate_at};
 use crate::lengths::RECORD;
 use crate::settings_part::{LETTER, VERSION};
-use octets::word::u32_at;
 use estimate::Estimate;
 use estimate::marks::{absent_zero, marks_below};
+use octets::word::u32_at;
 use replica::Best;
 
 // The length, the letter and the version.

@@ -7,9 +7,9 @@ ghost use Rattle.estimate.specs.Reading.{estimate_at};
 ghost use Rattle.records.specs.Lengths.{held_length};
 ghost use Rattle.records.specs.HeldPart.{heard_bytes, best_bytes, held_bytes, mark_at, heard_at, best_at, held_at};
 
-use octets::word::{put_byte, put_u32, u32_at};
 use estimate::Estimate;
 use estimate::parts::{put_estimate, read_readings, read_state};
+use octets::word::{put_byte, put_u32, u32_at};
 use replica::{Best, Held};
 
 fn mark_byte(mark: bool) -> u8

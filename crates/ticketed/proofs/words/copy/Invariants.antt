@@ -1,0 +1,16 @@
+-- `ticketed::words::copy` meets its contract. The loop's invariant: the first i bytes stand in the area. The measure is how many are left. Assumes nothing.
+use mathlib.Core.Path.{◌≡◌, refl, ◌∙◌}
+use Prim.Native.Nat.{◌-◌, ◌≤◌}
+use native.Mathlib.Omega.{arith}
+use lib.ListN.{length, length-set}
+use lib.Seq.{paste, paste-zero}
+use borrow.Author.Rules.{rules}
+use Rattle.octets.specs.Words.{part}
+use Rattle.ticketed.proofs.Halves.{one_more, all-copied}
+use Rattle.ticketed.proofs.words.copy.Given as goal
+
+abbrev pub invariant-loop-i : goal.invariant-loop-i
+invariant-loop-i l = (l.i ≤ l.count) × (l.to ≡ paste l.initial.to l.into (part l.from l.at l.count) l.i) × (length l.to ≡ length l.initial.to)
+
+abbrev pub decreases-loop-i : goal.decreases-loop-i
+decreases-loop-i l = l.count - l.i

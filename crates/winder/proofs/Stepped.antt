@@ -37,7 +37,7 @@ use Rattle.replica.proofs.Accepted.{accepted}
 use Rattle.replica.proofs.Lent.{settings-with, settings-lent, tick-lent, arrival-lent}
 use Rattle.replica.proofs.Calls.{checked_refused, checked-done}
 use Rattle.records.specs.Lengths.{settings_length, record_length}
-use Rattle.records.specs.SettingsPart.{letter, version, settings_bytes, settings_in}
+use Rattle.records.specs.SettingsPart.{letter, settings_bytes, settings_in}
 use Rattle.records.specs.HeldPart.{held_bytes, held_at}
 use Rattle.records.specs.Recording.{record_bytes}
 use Rattle.records.specs.Reading.{is_done, replica_in, layout_ok, settings_ok, held_ok, is_record, read_replica}

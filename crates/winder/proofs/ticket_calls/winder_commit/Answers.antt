@@ -1,0 +1,10 @@
+-- `winder_commit` meets its contract. Assumes nothing.
+use mathlib.Core.Path.{ap, ◌∙◌}
+use Rattle.winder.specs.Answers.{number_of}
+use Rattle.winder.proofs.TicketLaws.{number-of}
+use Rattle.winder.proofs.ticket_calls.winder_commit.Goals as goal
+
+pub returns : goal.returns
+returns c =
+    let w = c.commit.ensures in
+    record { answer = c.replica_number.ensures ∙ ap number_of w.answer ∙ number-of _; replica = w.replica }

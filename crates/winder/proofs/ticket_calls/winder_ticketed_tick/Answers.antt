@@ -1,0 +1,8 @@
+-- `winder_ticketed_tick` meets its contract. Assumes nothing.
+use Rattle.winder.proofs.TicketLaws.{step_left}
+use Rattle.winder.proofs.ticket_calls.winder_ticketed_tick.Goals as goal
+
+pub returns : goal.returns
+returns c =
+    let n = c.leave_step.ensures in
+    step_left c.tick-stepped.ensures n.answer n.lengths

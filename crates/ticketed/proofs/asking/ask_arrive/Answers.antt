@@ -16,17 +16,6 @@ use Rattle.ticketed.proofs.Typed.{ten}
 use Rattle.ticketed.proofs.Judged.{judged}
 use Rattle.ticketed.proofs.AskLaws.{asks-refused, ask-room, asked}
 use Rattle.ticketed.proofs.asking.ask_arrive.Goals as goal
-use Rattle.ticketed.proofs.asking.ask_arrive.Lts as lts
-use Rattle.ticketed.proofs.asking.ask_arrive.Reads as reads
-use Rattle.ticketed.proofs.asking.ask_arrive.Tie as tie
-
--- how the call started
-abbrev start : lts.After-read tie.the-claims reads.Pre reads.Post → lts.Start tie.the-claims reads.Pre reads.Post
-start c = c.before.before.before.before.before.before.before
-
--- what happens
-abbrev event : lts.After-read tie.the-claims reads.Pre reads.Post → Replica → Outcomes
-event c = let a = (start c).args in λ x. arrive_outcome x a.bytes.now (length a.frame.now) (length a.command.now)
 
 pub returns-then-not-ok : goal.returns-then-not-ok
 returns-then-not-ok c =
@@ -36,21 +25,22 @@ returns-then-not-ok c =
 
 pub askable_in-ticketed-requires : goal.askable_in-ticketed-requires
 askable_in-ticketed-requires c =
-    let is : is_ticketed (start c.before).args.replica.now ≡ true =
+    let is : is_ticketed c.args.replica.now ≡ true =
       sym c.read-found.ensures.ok ∙ c.if-not-ok.false in
     (judged _ (is)).long
 
 pub note-requires : goal.note-requires
 unfolding AllBytes
 note-requires c =
-    let is : is_ticketed (start c.before).args.replica.now ≡ true =
+    let event : Replica → Outcomes = λ x. arrive_outcome x c.args.bytes.now (length c.args.frame.now) (length c.args.command.now) in
+    let is : is_ticketed c.args.replica.now ≡ true =
       sym c.read-found.ensures.ok ∙ c.if-not-ok.false in
     let bytes : AllBytes c.args.replica.now =
       λ i. (c.slice_known-1.given i).fits in
-    let replica-read : c.read-found.result.replica ≡ (ticketed_in (start c.before).args.replica.now).replica =
+    let replica-read : c.read-found.result.replica ≡ (ticketed_in c.args.replica.now).replica =
       c.read-found.ensures.replica ∙ pick_true _ _ _ (is) in
-    let same : let b = (start c.before.before.before.before).args.replica.now in c.askable_in-ticketed.result ≡ askable (ticketed_in b).replica (tickets_at b) =
-      let b = (start c.before.before.before.before).args.replica.now in
+    let same : let b = c.args.replica.now in c.askable_in-ticketed.result ≡ askable (ticketed_in b).replica (tickets_at b) =
+      let b = c.args.replica.now in
       c.askable_in-ticketed.ensures ∙ ap (λ (r : Replica). askable r (tickets_at b)) (replica-read) in
     let places : length c.ask_arrive-asked.result.ticketed.tickets.held.heard ≡ 10 =
       ten c.ask_arrive-asked.result.ticketed.tickets.held _ c.ask_arrive-asked.type_inv.1.1.1.1.0.1.1.1.0.1.1.1.1.0 in
@@ -61,26 +51,27 @@ note-requires c =
       j.head,
       λ p. omega (
         arith,
-        c.ask-arrive.auto.1.1.0,
-        ask-room a.replica.now (bytes) i (event c.before.before.before.before.before.before.before.before.before.before.before.before.before.before.before.before) (same) refl (places) c.ask-arrive.ensures p,
+        c.ask_arrive-asked.auto.area,
+        ask-room a.replica.now (bytes) i event (same) refl (places) c.ask_arrive-asked.ensures p,
       ),
     )
 
 pub returns : goal.returns
 unfolding AllBytes
 returns c =
-    let is : is_ticketed (start c.before).args.replica.now ≡ true =
+    let event : Replica → Outcomes = λ x. arrive_outcome x c.args.bytes.now (length c.args.frame.now) (length c.args.command.now) in
+    let is : is_ticketed c.args.replica.now ≡ true =
       sym c.read-found.ensures.ok ∙ c.if-not-ok.false in
     let bytes : AllBytes c.args.replica.now =
       λ i. (c.slice_known-1.given i).fits in
-    let replica-read : c.read-found.result.replica ≡ (ticketed_in (start c.before).args.replica.now).replica =
+    let replica-read : c.read-found.result.replica ≡ (ticketed_in c.args.replica.now).replica =
       c.read-found.ensures.replica ∙ pick_true _ _ _ (is) in
-    let same : let b = (start c.before.before.before.before).args.replica.now in c.askable_in-ticketed.result ≡ askable (ticketed_in b).replica (tickets_at b) =
-      let b = (start c.before.before.before.before).args.replica.now in
+    let same : let b = c.args.replica.now in c.askable_in-ticketed.result ≡ askable (ticketed_in b).replica (tickets_at b) =
+      let b = c.args.replica.now in
       c.askable_in-ticketed.ensures ∙ ap (λ (r : Replica). askable r (tickets_at b)) (replica-read) in
     let places : length c.ask_arrive-asked.result.ticketed.tickets.held.heard ≡ 10 =
       ten c.ask_arrive-asked.result.ticketed.tickets.held _ c.ask_arrive-asked.type_inv.1.1.1.1.0.1.1.1.0.1.1.1.1.0 in
     let a = c.args in
     let n = c.note.ensures in
-    asked a.replica.now (bytes) (is) (event c.before.before.before.before.before.before.before.before.before.before.before.before.before.before.before.before.before.before.before) (same) refl (places) c.ask-arrive.ensures _ _
-    n.0 n.1
+    asked a.replica.now (bytes) (is) event (same) refl (places) c.ask_arrive-asked.ensures _ _
+    n.asked n.replica

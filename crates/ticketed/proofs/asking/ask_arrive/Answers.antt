@@ -3,8 +3,6 @@ use mathlib.Core.Path.{◌≡◌, refl, sym, ap, ◌∙◌}
 use mathlib.Core.Bool.{true}
 use native.Mathlib.Omega.{arith}
 use lib.ListN.{length}
-use borrow.Author.Rules.{rules}
-use borrow.Author.Tests.{not-true, not-false}
 use Rattle.lists.proofs.Choice.{pick_true}
 use Rattle.octets.specs.Words.{AllBytes}
 use Rattle.replica.specs.declared.Replica.{Replica}
@@ -26,7 +24,7 @@ returns-then-not-ok c =
 pub askable_in-ticketed-requires : goal.askable_in-ticketed-requires
 askable_in-ticketed-requires c =
     let is : is_ticketed c.args.replica.now ≡ true =
-      sym c.read-found.ensures.ok ∙ c.if-not-ok.false in
+    sym c.read-found.ensures.ok ∙ c.if-not-ok.false in
     (judged _ (is)).long
 
 pub note-requires : goal.note-requires
@@ -34,16 +32,16 @@ unfolding AllBytes
 note-requires c =
     let event : Replica → Outcomes = λ x. arrive_outcome x c.args.bytes.now (length c.args.frame.now) (length c.args.command.now) in
     let is : is_ticketed c.args.replica.now ≡ true =
-      sym c.read-found.ensures.ok ∙ c.if-not-ok.false in
+    sym c.read-found.ensures.ok ∙ c.if-not-ok.false in
     let bytes : AllBytes c.args.replica.now =
-      λ i. (c.slice_known-1.given i).fits in
+    λ i. (c.slice_known-1.given i).fits in
     let replica-read : c.read-found.result.replica ≡ (ticketed_in c.args.replica.now).replica =
-      c.read-found.ensures.replica ∙ pick_true _ _ _ (is) in
+    c.read-found.ensures.replica ∙ pick_true _ _ _ (is) in
     let same : let b = c.args.replica.now in c.askable_in-ticketed.result ≡ askable (ticketed_in b).replica (tickets_at b) =
-      let b = c.args.replica.now in
-      c.askable_in-ticketed.ensures ∙ ap (λ (r : Replica). askable r (tickets_at b)) (replica-read) in
+    let b = c.args.replica.now in
+    c.askable_in-ticketed.ensures ∙ ap (λ (r : Replica). askable r (tickets_at b)) (replica-read) in
     let places : length c.ask_arrive-asked.result.ticketed.tickets.held.heard ≡ 10 =
-      ten c.ask_arrive-asked.result.ticketed.tickets.held _ c.ask_arrive-asked.type_inv.1.1.1.1.0.1.1.1.0.1.1.1.1.0 in
+    ten c.ask_arrive-asked.result.ticketed.tickets.held _ c.ask_arrive-asked.type_inv.1.1.1.1.0.1.1.1.0.1.1.1.1.0 in
     let a = c.args in
     let i = is in
     let j = judged _ i in (
@@ -61,16 +59,16 @@ unfolding AllBytes
 returns c =
     let event : Replica → Outcomes = λ x. arrive_outcome x c.args.bytes.now (length c.args.frame.now) (length c.args.command.now) in
     let is : is_ticketed c.args.replica.now ≡ true =
-      sym c.read-found.ensures.ok ∙ c.if-not-ok.false in
+    sym c.read-found.ensures.ok ∙ c.if-not-ok.false in
     let bytes : AllBytes c.args.replica.now =
-      λ i. (c.slice_known-1.given i).fits in
+    λ i. (c.slice_known-1.given i).fits in
     let replica-read : c.read-found.result.replica ≡ (ticketed_in c.args.replica.now).replica =
-      c.read-found.ensures.replica ∙ pick_true _ _ _ (is) in
+    c.read-found.ensures.replica ∙ pick_true _ _ _ (is) in
     let same : let b = c.args.replica.now in c.askable_in-ticketed.result ≡ askable (ticketed_in b).replica (tickets_at b) =
-      let b = c.args.replica.now in
-      c.askable_in-ticketed.ensures ∙ ap (λ (r : Replica). askable r (tickets_at b)) (replica-read) in
+    let b = c.args.replica.now in
+    c.askable_in-ticketed.ensures ∙ ap (λ (r : Replica). askable r (tickets_at b)) (replica-read) in
     let places : length c.ask_arrive-asked.result.ticketed.tickets.held.heard ≡ 10 =
-      ten c.ask_arrive-asked.result.ticketed.tickets.held _ c.ask_arrive-asked.type_inv.1.1.1.1.0.1.1.1.0.1.1.1.1.0 in
+    ten c.ask_arrive-asked.result.ticketed.tickets.held _ c.ask_arrive-asked.type_inv.1.1.1.1.0.1.1.1.0.1.1.1.1.0 in
     let a = c.args in
     let n = c.note.ensures in
     asked a.replica.now (bytes) (is) event (same) refl (places) c.ask_arrive-asked.ensures _ _

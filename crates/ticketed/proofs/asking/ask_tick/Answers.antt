@@ -4,8 +4,6 @@ use mathlib.Core.Bool.{true}
 use mathlib.Core.List.{List}
 use native.Mathlib.Omega.{arith}
 use lib.ListN.{length}
-use borrow.Author.Rules.{rules}
-use borrow.Author.Tests.{not-true, not-false}
 use Rattle.lists.proofs.Choice.{pick_true}
 use Rattle.octets.specs.Words.{AllBytes}
 use Rattle.transmitters.specs.declared.Reading.{Reading}
@@ -30,7 +28,7 @@ returns-then-not-ok c =
 pub askable_in-ticketed-requires : goal.askable_in-ticketed-requires
 askable_in-ticketed-requires c =
     let is : is_ticketed c.args.replica.now ≡ true =
-      sym c.read-found.ensures.ok ∙ c.if-not-ok.false in
+    sym c.read-found.ensures.ok ∙ c.if-not-ok.false in
     (judged _ (is)).long
 
 pub note-requires : goal.note-requires
@@ -38,16 +36,16 @@ unfolding AllBytes
 note-requires c =
     let event : Replica → Outcomes = λ x. tick_outcome x (converted_row (readings_of c.args.kinds.now c.args.bits.now)) (length c.args.frame.now) (length c.args.command.now) in
     let is : is_ticketed c.args.replica.now ≡ true =
-      sym c.read-found.ensures.ok ∙ c.if-not-ok.false in
+    sym c.read-found.ensures.ok ∙ c.if-not-ok.false in
     let bytes : AllBytes c.args.replica.now =
-      λ i. (c.slice_known-1.given i).fits in
+    λ i. (c.slice_known-1.given i).fits in
     let replica-read : c.read-found.result.replica ≡ (ticketed_in c.args.replica.now).replica =
-      c.read-found.ensures.replica ∙ pick_true _ _ _ (is) in
+    c.read-found.ensures.replica ∙ pick_true _ _ _ (is) in
     let same : let b = c.args.replica.now in c.askable_in-ticketed.result ≡ askable (ticketed_in b).replica (tickets_at b) =
-      let b = c.args.replica.now in
-      c.askable_in-ticketed.ensures ∙ ap (λ (r : Replica). askable r (tickets_at b)) (replica-read) in
+    let b = c.args.replica.now in
+    c.askable_in-ticketed.ensures ∙ ap (λ (r : Replica). askable r (tickets_at b)) (replica-read) in
     let places : length c.ask_tick-asked.result.ticketed.tickets.held.heard ≡ 10 =
-      ten c.ask_tick-asked.result.ticketed.tickets.held _ c.ask_tick-asked.type_inv.1.1.1.1.0.1.1.1.0.1.1.1.1.0 in
+    ten c.ask_tick-asked.result.ticketed.tickets.held _ c.ask_tick-asked.type_inv.1.1.1.1.0.1.1.1.0.1.1.1.1.0 in
     let a = c.args in
     let with : List Reading → Replica → Outcomes = λ row x. tick_outcome x (converted_row row) (length a.frame.now) (length a.command.now) in
     let i = is in
@@ -66,16 +64,16 @@ unfolding AllBytes
 returns c =
     let event : Replica → Outcomes = λ x. tick_outcome x (converted_row (readings_of c.args.kinds.now c.args.bits.now)) (length c.args.frame.now) (length c.args.command.now) in
     let is : is_ticketed c.args.replica.now ≡ true =
-      sym c.read-found.ensures.ok ∙ c.if-not-ok.false in
+    sym c.read-found.ensures.ok ∙ c.if-not-ok.false in
     let bytes : AllBytes c.args.replica.now =
-      λ i. (c.slice_known-1.given i).fits in
+    λ i. (c.slice_known-1.given i).fits in
     let replica-read : c.read-found.result.replica ≡ (ticketed_in c.args.replica.now).replica =
-      c.read-found.ensures.replica ∙ pick_true _ _ _ (is) in
+    c.read-found.ensures.replica ∙ pick_true _ _ _ (is) in
     let same : let b = c.args.replica.now in c.askable_in-ticketed.result ≡ askable (ticketed_in b).replica (tickets_at b) =
-      let b = c.args.replica.now in
-      c.askable_in-ticketed.ensures ∙ ap (λ (r : Replica). askable r (tickets_at b)) (replica-read) in
+    let b = c.args.replica.now in
+    c.askable_in-ticketed.ensures ∙ ap (λ (r : Replica). askable r (tickets_at b)) (replica-read) in
     let places : length c.ask_tick-asked.result.ticketed.tickets.held.heard ≡ 10 =
-      ten c.ask_tick-asked.result.ticketed.tickets.held _ c.ask_tick-asked.type_inv.1.1.1.1.0.1.1.1.0.1.1.1.1.0 in
+    ten c.ask_tick-asked.result.ticketed.tickets.held _ c.ask_tick-asked.type_inv.1.1.1.1.0.1.1.1.0.1.1.1.1.0 in
     let a = c.args in
     let with : List Reading → Replica → Outcomes = λ row x. tick_outcome x (converted_row row) (length a.frame.now) (length a.command.now) in
     let n = c.note.ensures in

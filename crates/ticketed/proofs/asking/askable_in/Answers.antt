@@ -1,7 +1,6 @@
 -- `ticketed::asking::askable_in` meets its contract. Assumes nothing.
 use mathlib.Core.Path.{ap}
 use Prim.Native.Nat.{ℕ}
-use borrow.Author.Rules.{rules}
 use Rattle.asks.specs.declared.Ticketed.{Ticketed}
 use Rattle.ticketed.specs.TicketsPart.{tickets_at}
 use Rattle.ticketed.proofs.asking.askable_in.Goals as goal

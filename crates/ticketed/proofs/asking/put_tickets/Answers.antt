@@ -3,7 +3,6 @@ use mathlib.Core.Path.{◌≡◌, ap, ◌∙◌}
 use mathlib.Core.List.{[], ◌∷◌}
 use Prim.Native.Nat.{ℕ}
 use native.Mathlib.Omega.{arith}
-use borrow.Author.Rules.{rules}
 use Rattle.octets.specs.Areas.{put}
 use Rattle.estimate.specs.Marks.{bit}
 use Rattle.ticketed.proofs.AskLaws.{noted-shut, noted-open}
@@ -15,7 +14,7 @@ copy-requires c = (omega (arith, c.requires.2 c.if-pending.true), omega (arith, 
 pub returns-then-pending : goal.returns-then-pending
 returns-then-pending c =
     let marked : c.put_byte.new.area ≡ put c.args.replica.now 618 (bit c.args.pending ∷ []) =
-      c.put_byte.ensures ∙ ap (λ (x : ℕ). put c.args.replica.now 618 (x ∷ [])) c.mark_byte.ensures in
+    c.put_byte.ensures ∙ ap (λ (x : ℕ). put c.args.replica.now 618 (x ∷ [])) c.mark_byte.ensures in
     let a = c.args in
     noted-open a.replica.now c.requires.0 c.requires.1 a.latest a.pending _ _ a.area.now (marked) c.put_u64.ensures _
     (c.requires.2 c.if-pending.true) c.copy.ensures c.if-pending.true
@@ -23,6 +22,6 @@ returns-then-pending c =
 pub returns-else-pending : goal.returns-else-pending
 returns-else-pending c =
     let marked : c.put_byte.new.area ≡ put c.args.replica.now 618 (bit c.args.pending ∷ []) =
-      c.put_byte.ensures ∙ ap (λ (x : ℕ). put c.args.replica.now 618 (x ∷ [])) c.mark_byte.ensures in
+    c.put_byte.ensures ∙ ap (λ (x : ℕ). put c.args.replica.now 618 (x ∷ [])) c.mark_byte.ensures in
     let a = c.args in
     noted-shut a.replica.now c.requires.0 c.requires.1 a.latest a.pending _ _ a.area.now (marked) c.put_u64.ensures c.if-pending.false

@@ -2,8 +2,6 @@
 use mathlib.Core.Path.{◌≡◌, sym, ap, ◌∙◌}
 use native.Mathlib.Omega.{arith}
 use lib.ListN.{length}
-use borrow.Author.Rules.{rules}
-use borrow.Author.Tests.{not-true, not-false}
 use Rattle.lists.proofs.Choice.{pick-false}
 use Rattle.records.specs.Reading.{is_done}
 use Rattle.records.proofs.IsRecord.{read-is-done}
@@ -15,11 +13,20 @@ use Rattle.ticketed.proofs.reading.read.Goals as goal
 pub returns-then-not-tickets_ok : goal.returns-then-not-tickets_ok
 returns-then-not-tickets_ok c =
     let no = no-tickets c.args.area.now (sym c.tickets_ok.ensures ∙ c.if-not-tickets_ok.true) in
-    (no, c.blank-replica.ensures ∙ sym (pick-false _ _ _ (sym no)))
+    record { ok = no; replica = c.blank-replica.ensures ∙ sym (pick-false _ _ _ (sym no)) }
+
+pub slice_bounds-read-end : goal.slice_bounds-read-end
+slice_bounds-read-end c =
+    let long : length c.args.area.now ≡ ticketed_length =
+    tickets-long c.args.area.now (sym c.tickets_ok.ensures ∙ c.if-not-tickets_ok.false) in
+    omega (arith, long)
 
 pub returns : goal.returns
 returns c =
     let b = c.args.area.now in
     let r = c.read-parsed.ensures in
     let is = record-judged b (sym c.tickets_ok.ensures ∙ c.if-not-tickets_ok.false) in
-    (c.is_done.ensures ∙ ap is_done r.0 ∙ read-is-done (record_of b) ∙ is, r.1 ∙ replica-read b is)
+    record {
+      ok = c.is_done.ensures ∙ ap is_done r.answer ∙ read-is-done (record_of b) ∙ is;
+      replica = r.replica ∙ replica-read b is;
+    }

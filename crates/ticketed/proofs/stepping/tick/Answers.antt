@@ -4,7 +4,6 @@ use mathlib.Core.Bool.{true}
 use mathlib.Core.List.{List}
 use lib.ListN.{length}
 use borrow.Author.Rules.{rules}
-use borrow.Author.Tests.{not-true, not-false}
 use Rattle.lists.proofs.Choice.{pick_true}
 use Rattle.octets.specs.Words.{AllBytes}
 use Rattle.transmitters.specs.declared.Reading.{Reading}
@@ -17,17 +16,6 @@ use Rattle.ticketed.proofs.Typed.{ten}
 use Rattle.ticketed.proofs.Judged.{judged}
 use Rattle.ticketed.proofs.StepLaws.{steps-refused, stepped}
 use Rattle.ticketed.proofs.stepping.tick.Goals as goal
-use Rattle.ticketed.proofs.stepping.tick.Lts as lts
-use Rattle.ticketed.proofs.stepping.tick.Reads as reads
-use Rattle.ticketed.proofs.stepping.tick.Tie as tie
-
--- how the call started
-abbrev start : lts.After-read tie.the-claims reads.Pre reads.Post → lts.Start tie.the-claims reads.Pre reads.Post
-start c = c.before.before.before.before.before
-
--- what happens
-abbrev event : lts.After-read tie.the-claims reads.Pre reads.Post → Replica → Outcomes
-event c = let a = (start c).args in λ x. tick_outcome x (converted_row (readings_of a.kinds.now a.bits.now)) (length a.frame.now) (length a.command.now)
 
 pub returns-then-not-ok : goal.returns-then-not-ok
 returns-then-not-ok c =
@@ -36,22 +24,22 @@ returns-then-not-ok c =
 
 pub step_of-requires : goal.step_of-requires
 step_of-requires c =
-    let is : is_ticketed (start c.before).args.replica.now ≡ true =
-      sym c.read-found.ensures.ok ∙ c.if-not-ok.false in
-    (judged _ (is)).long
+    let is : is_ticketed c.args.replica.now ≡ true =
+    sym c.read-found.ensures.ok ∙ c.if-not-ok.false in
+    (judged _ is).long
 
 pub returns : goal.returns
 unfolding AllBytes
 returns c =
-    let is : is_ticketed (start c.before).args.replica.now ≡ true =
-      sym c.read-found.ensures.ok ∙ c.if-not-ok.false in
-    let bytes : AllBytes c.args.replica.now =
-      λ i. (c.slice_known-1.given i).fits in
-    let replica-read : c.read-found.result.replica ≡ (ticketed_in (start c.before).args.replica.now).replica =
-      c.read-found.ensures.replica ∙ pick_true _ _ _ (is) in
+    let is : is_ticketed c.args.replica.now ≡ true =
+    sym c.read-found.ensures.ok ∙ c.if-not-ok.false in
+    let bytes : AllBytes c.args.replica.now = search rules in
+    let replica-read : c.read-found.result.replica ≡ (ticketed_in c.args.replica.now).replica =
+    c.read-found.ensures.replica ∙ pick_true _ _ _ is in
     let places : length c.tick-stepped.result.replica.held.heard ≡ 10 =
-      ten c.tick-stepped.result.replica.held _ c.tick-stepped.type_inv.1.1.1.0.1.1.1.0 in
+    ten c.tick-stepped.result.replica.held _ c.tick-stepped.type_inv.1.1.1.0.1.1.1.0 in
     let a = c.args in
     let with : List Reading → Replica → Outcomes = λ row x. tick_outcome x (converted_row row) (length a.frame.now) (length a.command.now) in
-    let n = c.step_of_lem.ensures in
-    stepped a.replica.now (bytes) (is) (event c.before.before.before.before.before.before.before.before.before.before.before.before.before.before) (replica-read) (ap with c.readings_of-readings.ensures) (places) c.tick-stepped.ensures _ _ n.0 n.1
+    let event : Replica → Outcomes = λ x. tick_outcome x (converted_row (readings_of c.args.kinds.now c.args.bits.now)) (length c.args.frame.now) (length c.args.command.now) in
+    let n = c.step_of.ensures in
+    stepped a.replica.now bytes is event replica-read (ap with c.readings_of-readings.ensures) places c.tick-stepped.ensures _ _ n.stepped n.replica

@@ -1,8 +1,8 @@
 -- What the calls of a replica with tickets answer and leave. Assumes nothing.
-use mathlib.Core.Path.{◌≡◌, refl, sym, ap, ap₂, subst, ◌∙◌}
+use mathlib.Core.Path.{◌≡◌, refl, sym, ap, subst, ◌∙◌}
 use mathlib.Core.Logic.{inl, inr, ◌≢◌}
 use mathlib.Core.Bool.{Bool, true, false, not}
-use mathlib.Core.List.{List, [], ◌∷◌}
+use mathlib.Core.List.{List, []}
 use Prim.Native.Nat.{ℕ}
 use lib.Dec.{T, eqb}
 use lib.ListN.{length}
@@ -15,25 +15,21 @@ use Rattle.scram.specs.History.{In}
 use Rattle.scram.specs.Held.{Held}
 use Rattle.law.specs.Settings.{refusals}
 use Rattle.octets.specs.Areas.{over}
-use Rattle.replica.specs.declared.Settings.{Settings}
 use Rattle.replica.specs.Settings.{settings_refusals, settings_refusal}
 use Rattle.replica.specs.Held.{held_in, held_of}
 use Rattle.replica.specs.Frames.{sent_bytes, issued_bytes}
 use Rattle.replica.specs.Calls.{Outcomes, tick_outcome, give_up_outcome, arrive_outcome}
-use Rattle.records.specs.Recording.{short_record, record_refusal}
+use Rattle.records.specs.Recording.{record_refusal}
 use Rattle.records.specs.Reading.{is_done}
-use Rattle.tickets.specs.Tickets.{is_spent, after_step, commits}
+use Rattle.tickets.specs.Tickets.{is_spent, commits}
 use Rattle.tickets.proofs.Laws.{step-not-made}
-use Rattle.asks.specs.declared.Tickets.{Tickets}
 use Rattle.asks.specs.declared.Ticketed.{Ticketed}
-use Rattle.asks.specs.declared.Asked.{Asked}
-use Rattle.asks.specs.declared.Stepped.{Stepped as TicketedStep}
-use Rattle.asks.specs.Asking.{tickets_of, tickets_in, answer_before, outcome_after, ask_outcome, asked_record, Asks, Steps, commit_answer, committed}
+use Rattle.asks.specs.Asking.{tickets_of, tickets_in, answer_before, outcome_after, ask_outcome, asked_record, commit_answer}
 use Rattle.asks.proofs.CommitLaws.{commit-refuses}
 use Rattle.answers.specs.Answers.{numbered, ticking, giving_up, arriving, asking_tick, asking_give_up, asking_arrive, committing}
 use Rattle.answers.specs.Kept.{AskKept, TicketedKept}
 use Rattle.answers.specs.Demand1.{AskAnswers, CommitAnswers, TicketedAnswers}
-use Rattle.answers.proofs.Numbers.{all_listed, has_number, has_numbers, first-in, refusal-in, answers-as}
+use Rattle.answers.proofs.Numbers.{all_listed, first-in, refusal-in, answers-as}
 use Rattle.answers.proofs.Outcomes.{Still, Step, refuses, ignores}
 use Rattle.answers.proofs.Replica.{tick-outcome, give-up-outcome, arrive-outcome}
 

@@ -8,7 +8,6 @@ use Prim.Native.Nat.{ℕ}
 use lib.Dec.{T}
 use Rattle.lists.proofs.Choice.{pick-ok}
 use Rattle.scram.specs.declared.Kind.{Kind}
-use Rattle.scram.specs.declared.Kind.TheVariants as Kind
 use Rattle.scram.specs.Answers.{Answered, Done, Ignored, Refused}
 use Rattle.scram.specs.History.{In}
 use Rattle.scram.specs.Held.{Law, Group, Best, Held, Message, Outcome}

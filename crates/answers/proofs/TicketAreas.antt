@@ -9,13 +9,11 @@ use lib.ListN.{length, take}
 use lib.Seq.{take-append_seam}
 use borrow.Author.Tests.{ne_eqb}
 use Rattle.lists.specs.Choice.{pick}
-use Rattle.lists.proofs.Choice.{pick-holds, pick_true, pick-false}
+use Rattle.lists.proofs.Choice.{pick-holds, pick-false}
 use Rattle.readings.specs.declared.Readings.{Readings}
-use Rattle.scram.specs.Answers.{Answered, Done, Ignored, Refused}
+use Rattle.scram.specs.Answers.{Answered, Done, Ignored}
 use Rattle.scram.specs.History.{In}
-use Rattle.scram.specs.Events.{refusing}
 use Rattle.octets.specs.Areas.{over}
-use Rattle.replica.specs.declared.Settings.{Settings}
 use Rattle.replica.specs.declared.Replica.{Replica}
 use Rattle.replica.specs.Settings.{settings_refusal}
 use Rattle.replica.specs.Held.{held_in}
@@ -23,13 +21,12 @@ use Rattle.replica.specs.Frames.{sent_bytes, issued_bytes}
 use Rattle.replica.specs.Calls.{Outcomes, tick_outcome, give_up_outcome, arrive_outcome}
 use Rattle.records.specs.Lengths.{record_length}
 use Rattle.records.specs.Recording.{record_refusal}
-use Rattle.records.specs.Reading.{is_done, is_record, replica_in}
 use Rattle.records.proofs.IsRecord.{record-stands}
 use Rattle.records.proofs.Recorded.{refused-short, not-refused}
-use Rattle.asks.specs.Asking.{ask_outcome, asked_record}
+use Rattle.asks.specs.Asking.{asked_record}
 use Rattle.ticketed.specs.TicketsPart.{ticket_bytes}
 use Rattle.ticketed.specs.Reading.{record_of, ticketed_in, is_ticketed}
-use Rattle.ticketed.specs.Calls.{tickets_refusal, with_tickets, ask_at, asked_area, tickets_after, sent_at, issued_at, committing_refusal, committing, step_at, stepped_area}
+use Rattle.ticketed.specs.Calls.{tickets_refusal, with_tickets, ask_at, asked_area, tickets_after, committing_refusal, committing, step_at, stepped_area}
 use Rattle.ticketed.proofs.Judged.{judged, record-length}
 use Rattle.answers.specs.Answers.{numbered, numbered_step}
 use Rattle.answers.specs.Answers.{ticking_record, giving_up_record, arriving_record, adding_tickets, asking_tick_area, committing_area}

@@ -1,10 +1,10 @@
 -- Demand 3 with events asked first holds of the replica and of the calls of the C firmware, that with power cycles is its special case, and what its
 -- histories have of an ask is what the call gives. Assumes nothing.
-use mathlib.Core.Path.{◌≡◌, refl, sym, ap, ◌∙◌, subst}
+use mathlib.Core.Path.{◌≡◌, refl, ap, ◌∙◌, subst}
 use mathlib.Core.Bool.{true, false}
 use mathlib.Core.List.{List, [], map}
 use Prim.Native.Nat.{ℕ, ◌≤◌}
-use lib.ListN.{length, take}
+use lib.ListN.{length}
 use Rattle.lists.proofs.Choice.{pick_true}
 use Rattle.octets.specs.Areas.{over}
 use Rattle.transmitters.specs.declared.Reading.{Reading}

@@ -88,9 +88,9 @@ module _ (N : ℕ) (q : Quorums) (law : Law.Settings) where
           le-leb h.best.base_period h.period b.period,
         )
 
-    best_of : BestHeard (law_of law) N h.period h.view (best_in h.best) → (h.best ≡ no_best) ⊎ BestOf N h.best
-    best_of (inl e) = inl (ap best_of e)
-    best_of (inr q) = inr (record { any = q.any; box = is-box N h.best.box_number q.box })
+    best-heard : BestHeard (law_of law) N h.period h.view (best_in h.best) → (h.best ≡ no_best) ⊎ BestOf N h.best
+    best-heard (inl e) = inl (ap best_of e)
+    best-heard (inr q) = inr (record { any = q.any; box = is-box N h.best.box_number q.box })
 
     held-in-order : Typed law (held_in h) → Ordered (law_of law) N (held_in h) → HeldInOrder N law.n law.m h
     held-in-order t o = record {
@@ -101,7 +101,7 @@ module _ (N : ℕ) (q : Quorums) (law : Law.Settings) where
       bases = bases-ok o;
       estimate = estimate-whole h.estimate t.estimate;
       best_estimate = estimate-whole h.best.estimate t.best;
-      best = best_of o.best;
+      best = best-heard o.best;
     }
 
   -- a replica of a box of the group, whatever the history

@@ -1,0 +1,7 @@
+-- `boxes::no_ask` meets its contract. Assumes nothing.
+use borrow.Author.Rules.{rules}
+use mathlib.Core.Bool.{false}
+use Rattle.script.proofs.boxes.no_ask.Goals as goal
+
+pub returns : goal.returns
+returns c = λ i. record { ok = false; gave = c.nothing-gave.ensures i }

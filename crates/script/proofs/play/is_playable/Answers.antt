@@ -32,4 +32,5 @@ returns-in-Bad c =
 pub returns-in_default : goal.returns-in_default
 returns-in_default c =
     let a = c.args in
-    others-playable a.stored a.asked a.event a.number a.lengths.now c.in_default.keys5
+    others-playable a.stored a.asked a.event a.number a.lengths.now c.in_default.not-Deliver c.in_default.not-Return
+    c.in_default.not-StoreAsked c.in_default.not-Bad

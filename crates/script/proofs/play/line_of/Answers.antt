@@ -10,4 +10,4 @@ unfolding line_in
 returns-in-Deliver c = sym (ap line_in c.in-Deliver.is)
 
 pub returns-in_default : goal.returns-in_default
-returns-in_default c = no_line c.args.event c.in_default.keys2
+returns-in_default c = no_line c.args.event c.in_default.not-Deliver

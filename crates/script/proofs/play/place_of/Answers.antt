@@ -8,8 +8,14 @@ use Rattle.script.proofs.play.place_of.Goals as goal
 
 pub returns-then-at-lt10 : goal.returns-then-at-lt10
 unfolding place_of pick
-returns-then-at-lt10 c = (rw (← c.box_of-at.ensures, lt-ltb _ 10 c.if-at-lt10.true), omega arith)
+returns-then-at-lt10 c = record {
+      place = rw (← c.box_of-at.ensures, lt-ltb _ 10 c.if-at-lt10.true);
+      bound = omega arith;
+    }
 
 pub returns-else-at-lt10 : goal.returns-else-at-lt10
 unfolding place_of pick
-returns-else-at-lt10 c = (rw (← c.box_of-at.ensures, le-ltb _ 10 c.if-at-lt10.false), omega arith)
+returns-else-at-lt10 c = record {
+      place = rw (← c.box_of-at.ensures, le-ltb _ 10 c.if-at-lt10.false);
+      bound = omega arith;
+    }

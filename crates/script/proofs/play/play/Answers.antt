@@ -14,14 +14,14 @@ returns-then-not-can_play c =
 pub arriving-requires : goal.arriving-requires
 arriving-requires c =
     let a = c.args in
-    let r = room a.kept.stored a.kept.latest.ok a.event a.number _ a.lengths.now (sym c.can-play.ensures ∙ not-false _ c.if1.false) in
+    let r = room a.kept.stored a.kept.latest.ok a.event a.number _ a.lengths.now (sym c.can_play.ensures ∙ c.if-not-can_play.false) in
     (r.line, r.sizes)
 
 pub returns-then-asks : goal.returns-then-asks
 returns-then-asks c =
     let a = c.args in
     leaves-asked a.kept a.asks a.event a.readings a.at a.number a.table.now a.lengths.now _ _ _
-    (sym c.can-play.ensures ∙ not-false _ c.if1.false) c.if2.true _ c.arriving.ensures c.ask_event.ensures
+    (sym c.can_play.ensures ∙ c.if-not-can_play.false) c.if-asks.true _ c.arriving.ensures c.ask_event.ensures
 
 pub play_event-requires : goal.play_event-requires
 play_event-requires c =

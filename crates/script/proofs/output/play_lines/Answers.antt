@@ -41,7 +41,7 @@ pub returns-then-text-at : goal.returns-then-text-at
 returns-then-text-at c =
     let l = c.loop-number in
     let a = c.args in (
-      no_more a.of-rig a.boxes a.m a.start a.text.now a.output.now
+      no_more a.of_rig a.boxes a.m a.start a.text.now a.output.now
           c.requires.2 _ _ _ _ _ _ _ _ l.invariant (lines_end _ a.text.now l.at
           c.if-text-at.true),
       l.invariant.from,
@@ -64,11 +64,11 @@ loop-number-preserved c =
     let t = c.play-one in
     let call = c.call_in-called in
     let line = c.line_end-stop in
-    one_more a.of-rig a.boxes a.m a.start a.text.now a.output.now c.requires.2 _ _ _ _ _ _ _ _ l.invariant
+    one_more a.of_rig a.boxes a.m a.start a.text.now a.output.now c.requires.2 _ _ _ _ _ _ _ _ l.invariant
     line.result c.place_of-place.result call.result _ _ c.readings_of-readings.result
     c.loop-number-test.true (omega (arith, c.if-text-at.false))
-    line.ensures.2 line.ensures.3 call.ensures c.place_of-place.ensures.0 c.place_of-place.ensures.1 refl c.readings_of-readings.ensures
-    t.auto.1.1.1.1.1.0 t.auto.1.1.1.1.1.1.0 t.auto.1.1.1.1.1.1.1.0 t.ensures
+    line.ensures.2 line.ensures.3 call.ensures c.place_of-place.ensures.place c.place_of-place.ensures.bound refl c.readings_of-readings.ensures
+    t.auto.table t.auto.lengths t.auto.text t.ensures
 
 pub shape_of-table : goal.shape_of-table
 shape_of-table c = c.loop-number.invariant.frames ∙ sym c.requires.0
@@ -84,7 +84,7 @@ returns c =
     let l = c.loop-number in
     let a = c.args in
     let none : most - l.number ≡ 0 = omega (arith, c.loop-number-test.false) in (
-      no_more a.of-rig a.boxes a.m a.start a.text.now a.output.now c.requires.2 _ _ _ _ _ _ _ _
+      no_more a.of_rig a.boxes a.m a.start a.text.now a.output.now c.requires.2 _ _ _ _ _ _ _ _
           l.invariant (no_lines _ (drop l.at a.text.now) none),
       l.invariant.from,
     )

@@ -38,7 +38,7 @@ returns c =
     let same : start ≡ unplayed a.settings =
     ap₂ (λ (b : List Kept) (p : List ℕ). left b (replicate table_length 0) (replicate (most + 1) 0) p)
     c.fresh-kept.ensures w.text in
-    let whole = ap₂ (λ (m : ℕ) (l : Left). (played a.of-rig a.settings.boxes m 0 l (lines_of most a.text.now)).printed)
+    let whole = ap₂ (λ (m : ℕ) (l : Left). (played a.of_rig a.settings.boxes m 0 l (lines_of most a.text.now)).printed)
     c.at_most-m.ensures same in
     let p = c.play_lines.ensures in
     prints-same whole

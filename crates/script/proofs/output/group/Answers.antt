@@ -12,17 +12,17 @@ pub returns-in-Done : goal.returns-in-Done
 returns-in-Done c =
     let a = c.args in
     prints-same (sym (group-made a.settings a.text.now (sym
-    c.make-made.ensures.0 ∙ ap answered c.in-Done.is)))
+    c.make-made.ensures.answer ∙ ap answered c.in-Done.is)))
     c.play_script.ensures
 
 pub returns-in-Ignored : goal.returns-in-Ignored
-returns-in-Ignored c = absurd (group-never c.args.settings c.args.text.now (sym c.make-made.ensures.0 ∙ ap answered c.in-Ignored.is))
+returns-in-Ignored c = absurd (group-never c.args.settings c.args.text.now (sym c.make-made.ensures.answer ∙ ap answered c.in-Ignored.is))
 
 pub returns-in-Refused : goal.returns-in-Refused
 returns-in-Refused c =
     let a = c.args in
     prints-same (sym (group-refused a.settings a.text.now _ (sym
-    c.make-made.ensures.0 ∙ ap answered c.in-Refused.is)))
+    c.make-made.ensures.answer ∙ ap answered c.in-Refused.is)))
     (puts-prints (omega (
       arith,
       c.requires,

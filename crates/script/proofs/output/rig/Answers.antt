@@ -13,6 +13,6 @@ pub returns : goal.returns
 unfolding rig_output
 returns c =
     let line = c.line_end-stop.ensures in
-    let first = c.before.before.before.before.«open».ensures ∙ ap (λ (l : List ℕ). opened_by l (sizes_in l)) line.2 in
+    let first = c.open-first.ensures ∙ ap (λ (l : List ℕ). opened_by l (sizes_in l)) line.2 in
     let rest = c.after_line.ensures ∙ line.3 in
     prints-same (ap₂ (λ (o : Opened) (t : List ℕ). opened_output o.opening o.settings t) first rest) c.opened.ensures

@@ -13,7 +13,7 @@ pub returns : goal.returns
 unfolding ticket_word
 returns c =
     let twenty : length c.digits_of-d.result.bytes ≡ 20 =
-      search rules in
+    search rules in
     let d = c.digits_of-d in
     then-puts c.put_byte-at.ensures
     (puts-same

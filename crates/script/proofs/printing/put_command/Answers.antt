@@ -21,7 +21,7 @@ pub returns : goal.returns
 unfolding command_word pick
 returns c =
     let four : length c.command_values-values.result ≡ 4 =
-      search rules in
+    search rules in
     let s = c.args in
     let v = c.command_values-values in
     let u = c.at_most-n.ensures in

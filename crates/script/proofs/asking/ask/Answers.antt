@@ -1,5 +1,6 @@
 -- `asking::ask` meets its contract. Assumes nothing.
 use borrow.Author.Rules.{rules}
+use borrow.Enum.Refused.{opened}
 use mathlib.Core.Path.{sym, subst}
 use Rattle.script.specs.Asking.{Asks, ask_of}
 use Rattle.script.proofs.AskLaws.{other-asked}
@@ -26,4 +27,4 @@ returns-in-Deliver c =
 pub returns-in_default : goal.returns-in_default
 returns-in_default c =
     let a = c.args in
-    other-asked a.kept a.event a.readings a.bytes.now c.not_asked.result c.in_default.keys4 c.not_asked.ensures
+    other-asked a.kept a.event a.readings a.bytes.now c.not_asked.result (opened c.in_default.in_default-own.keys4) c.not_asked.ensures

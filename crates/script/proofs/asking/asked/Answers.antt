@@ -11,7 +11,7 @@ returns c =
     let a = c.args in
     let one = a.one in
     let ok = c.is_done-ok.ensures in
-    let shown = c.Shown-of.ensures ∙ ap (λ (b : Bool). pick b (asked_replica one.ticketed) one.ticketed.replica) ok in
+    let shown = c.shown_of.ensures ∙ ap (λ (b : Bool). pick b (asked_replica one.ticketed) one.ticketed.replica) ok in
     λ i. record {
       answer = one.answer;
       ticket = one.ticket;

@@ -12,9 +12,9 @@ pub returns : goal.returns
 returns c =
     let a = c.args in
     let one = c.commit-one.ensures in
-    let ok = c.is_done.ensures ∙ ap is_done one.0 ∙ commits-done a.kept a.ticket in
+    let ok = c.is_done.ensures ∙ ap is_done one.answer ∙ commits-done a.kept a.ticket in
     record {
-      answer = one.0;
+      answer = one.answer;
       gave = c.only_where.ensures ∙ ap (λ (t : Bool). pick t a.kept.latest.gave nothing) ok;
-      kept = c.with_ticketed.ensures ∙ ap (with_ticketed a.kept) one.1;
+      kept = c.with_ticketed.ensures ∙ ap (with_ticketed a.kept) one.ticketed;
     }

@@ -13,10 +13,10 @@ unfolding back_from
 returns c =
     let b = c.args.kept in
     let up = c.stay_up-back.ensures in
-    let ok = c.is_done.ensures ∙ ap is_done up.0 in
+    let ok = c.is_done.ensures ∙ ap is_done up.answer in
     let q = c.quiet.ensures in
     record {
-      answer = q.answer ∙ up.0;
-      kept = q.kept ∙ c.returned.ensures ∙ ap₂ (λ (t : Bool) (r : Replica). pick t (returned_as b r) b) ok up.1;
+      answer = q.answer ∙ up.answer;
+      kept = q.kept ∙ c.returned.ensures ∙ ap₂ (λ (t : Bool) (r : Replica). pick t (returned_as b r) b) ok up.replica;
       gave = q.gave;
     }

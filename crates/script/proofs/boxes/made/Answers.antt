@@ -7,6 +7,6 @@ use Rattle.script.proofs.boxes.made.Goals as goal
 
 pub returns : goal.returns
 returns c =
-    let r = c.make-made.ensures.1 in
+    let r = c.make-made.ensures.replica in
     let x = c.with_tickets-ticketed.ensures ∙ ap ticketless r in
     λ i. record { ticketed = x i; stored = false; recorded = r i; latest = c.no_ask-latest.ensures i }

@@ -13,9 +13,9 @@ pub returns : goal.returns
 unfolding ticket_word
 returns c =
     let twenty : length c.digits_of-d.result.bytes ≡ 20 =
-      search rules in
-    let d = c.digits_of in
-    then-puts c.put_byte.ensures
+    search rules in
+    let d = c.digits_of-d in
+    then-puts c.put_byte-at.ensures
     (puts-same
     (ap (λ n. take (n - d.result.from) (drop d.result.from d.result.bytes))
     (sym (twenty)) ∙ to_the_end d.result.bytes d.result.from

@@ -21,10 +21,10 @@ pub returns : goal.returns
 unfolding command_word pick
 returns c =
     let four : length c.command_values-values.result ≡ 4 =
-      search rules in
+    search rules in
     let s = c.args in
-    let v = c.command-values in
-    let u = c.at_most.ensures in
+    let v = c.command_values-values in
+    let u = c.at_most-n.ensures in
     let same = ap listed (in_use v.result 4 s.p _ (four) u ∙ ap (take s.p) v.ensures) in
-    rw (ne_eqb _ _ c.if1.false)
-    (then-puts c.put_byte.ensures (then-puts (puts-same same c.put_list-at.ensures) c.put_star.ensures))
+    rw (ne_eqb _ _ c.if-size-eq0.false)
+    (then-puts c.put_byte-at.ensures (then-puts (puts-same same c.put_list-at.ensures) c.put_star.ensures))

@@ -13,10 +13,10 @@ pub returns : goal.returns
 unfolding state_word
 returns c =
     let six : length c.args.replica.held.estimate.state ≡ 6 =
-      search rules in
+    search rules in
     let s = c.args in
-    let u = c.at_most.ensures in (
-      then-puts c.put_byte.ensures
+    let u = c.at_most-n.ensures in (
+      then-puts c.put_byte-at.ensures
           (puts-same
           (ap listed
           (in_use s.replica.held.estimate.state 6 s.replica.settings.law.n _

@@ -1,14 +1,12 @@
 -- Laws of a line played: what its event gives decides what the line leaves. Assumes nothing.
 use mathlib.Core.Path.{◌≡◌, refl, ap, ◌∙◌, subst}
 use mathlib.Core.Bool.{Bool, true, false, ◌&&◌}
-use mathlib.Core.List.{List, [], ◌∷◌}
+use mathlib.Core.List.{List}
 use Prim.Native.Nat.{ℕ, ◌+◌, ◌≤◌}
 use native.Mathlib.Omega.{arith}
 use lib.Dec.{leb, ltb}
 use lib.ListN.{length, set}
 use borrow.Author.Tests.{leb-true, ltb-true}
-use denote.Enum.Declared.{tag_of}
-use types.Run.{OneOf, miss}
 use Rattle.lists.specs.Choice.{pick}
 use Rattle.lists.proofs.Booleans.{both, never}
 use Rattle.scram.specs.Answers.{Answered, answered}
@@ -17,7 +15,6 @@ use Rattle.text.specs.Printing.{Puts}
 use Rattle.text.proofs.PrintingLaws.{puts-same}
 use Rattle.line.specs.declared.events.Event.{Event}
 use Rattle.line.specs.declared.events.Event.TheVariants.{Tick, GiveUp, Deliver, Store, Return, Commit, StoreAsked, Bad}
-use Rattle.line.specs.contracts.events.Event as Events
 use Rattle.line.specs.Frames.{was_sent, kept as sent_kept}
 use Rattle.script.specs.declared.boxes.Outgoing.{Outgoing}
 use Rattle.script.specs.declared.boxes.Kept.{Kept}

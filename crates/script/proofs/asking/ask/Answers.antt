@@ -1,5 +1,4 @@
 -- `asking::ask` meets its contract. Assumes nothing.
-use borrow.Author.Rules.{rules}
 use borrow.Enum.Refused.{opened}
 use mathlib.Core.Path.{sym, subst}
 use Rattle.script.specs.Asking.{Asks, ask_of}

@@ -1,5 +1,4 @@
 -- `asking::ask_arrive` meets its contract. Assumes nothing.
-use borrow.Author.Rules.{rules}
 use Rattle.script.proofs.AskLaws.{asked-gives}
 use Rattle.script.proofs.asking.ask_arrive.Goals as goal
 

@@ -1,5 +1,4 @@
 -- `asking::ask_give_up` meets its contract. Assumes nothing.
-use borrow.Author.Rules.{rules}
 use Rattle.script.proofs.AskLaws.{asked-gives}
 use Rattle.script.proofs.asking.ask_give_up.Goals as goal
 

@@ -1,5 +1,4 @@
 -- `asking::commit` meets its contract. Assumes nothing.
-use borrow.Author.Rules.{rules}
 use mathlib.Core.Path.{ap, ◌∙◌}
 use mathlib.Core.Bool.{Bool}
 use Rattle.lists.specs.Choice.{pick}

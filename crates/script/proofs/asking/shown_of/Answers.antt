@@ -1,5 +1,4 @@
 -- `asking::shown_of` meets its contract. Assumes nothing.
-use borrow.Author.Rules.{rules}
 use mathlib.Core.Path.{sym, ◌∙◌}
 use Rattle.lists.proofs.Choice.{pick_true, pick-false}
 use Rattle.script.proofs.asking.shown_of.Goals as goal

@@ -1,5 +1,4 @@
 -- `asking::store_asked` meets its contract. Assumes nothing.
-use borrow.Author.Rules.{rules}
 use mathlib.Core.Path.{ap, ◌∙◌}
 use Rattle.script.specs.Boxes.{with_record}
 use Rattle.script.proofs.asking.store_asked.Goals as goal

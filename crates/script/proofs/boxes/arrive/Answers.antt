@@ -1,5 +1,4 @@
 -- `boxes::arrive` meets its contract. Assumes nothing.
-use borrow.Author.Rules.{rules}
 use Rattle.script.proofs.BoxLaws.{stepped-gives}
 use Rattle.script.proofs.boxes.arrive.Goals as goal
 

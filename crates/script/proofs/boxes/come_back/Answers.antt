@@ -1,5 +1,4 @@
 -- `boxes::come_back` meets its contract. Assumes nothing.
-use borrow.Author.Rules.{rules}
 use mathlib.Core.Path.{ap, ap₂, ◌∙◌}
 use mathlib.Core.Bool.{Bool}
 use Rattle.lists.specs.Choice.{pick}

@@ -1,6 +1,5 @@
 -- `boxes::fresh` meets its contract. Assumes nothing.
 use mathlib.Core.List.{[], ◌∷◌}
-use borrow.Author.Rules.{rules}
 use Rattle.script.specs.Play.{fresh_boxes}
 use Rattle.script.proofs.boxes.fresh.Goals as goal
 

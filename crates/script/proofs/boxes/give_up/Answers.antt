@@ -1,5 +1,4 @@
 -- `boxes::give_up` meets its contract. Assumes nothing.
-use borrow.Author.Rules.{rules}
 use Rattle.script.proofs.BoxLaws.{stepped-gives}
 use Rattle.script.proofs.boxes.give_up.Goals as goal
 

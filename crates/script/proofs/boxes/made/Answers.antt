@@ -1,5 +1,4 @@
 -- `boxes::made` meets its contract. Assumes nothing.
-use borrow.Author.Rules.{rules}
 use mathlib.Core.Path.{ap, ◌∙◌}
 use mathlib.Core.Bool.{false}
 use Rattle.asks.specs.Asking.{ticketless}

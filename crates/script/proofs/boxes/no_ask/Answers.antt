@@ -1,5 +1,4 @@
 -- `boxes::no_ask` meets its contract. Assumes nothing.
-use borrow.Author.Rules.{rules}
 use mathlib.Core.Bool.{false}
 use Rattle.script.proofs.boxes.no_ask.Goals as goal
 

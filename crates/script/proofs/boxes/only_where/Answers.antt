@@ -1,5 +1,4 @@
 -- `boxes::only_where` meets its contract. Assumes nothing.
-use borrow.Author.Rules.{rules}
 use mathlib.Core.Path.{sym, ◌∙◌}
 use Rattle.lists.proofs.Choice.{pick_true, pick-false}
 use Rattle.script.proofs.boxes.only_where.Goals as goal

@@ -1,7 +1,5 @@
 -- `boxes::returned` meets its contract. Assumes nothing.
-use borrow.Author.Rules.{rules}
 use mathlib.Core.Path.{◌≡◌, sym, ◌∙◌}
-use borrow.Author.Tests.{not-true, not-false}
 use Rattle.lists.proofs.Choice.{pick_true, pick-false}
 use Rattle.script.specs.declared.boxes.Kept.{Kept}
 use Rattle.script.specs.Play.{returned_as}

@@ -1,5 +1,4 @@
 -- `boxes::stepped` meets its contract. Assumes nothing.
-use borrow.Author.Rules.{rules}
 use Rattle.script.proofs.boxes.stepped.Goals as goal
 
 pub returns : goal.returns

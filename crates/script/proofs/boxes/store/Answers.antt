@@ -1,5 +1,4 @@
 -- `boxes::store` meets its contract. Assumes nothing.
-use borrow.Author.Rules.{rules}
 use mathlib.Core.Path.{◌∙◌}
 use Rattle.script.proofs.boxes.store.Goals as goal
 

@@ -1,5 +1,4 @@
 -- `boxes::tick` meets its contract. Assumes nothing.
-use borrow.Author.Rules.{rules}
 use Rattle.script.proofs.BoxLaws.{stepped-gives}
 use Rattle.script.proofs.boxes.tick.Goals as goal
 

@@ -1,13 +1,10 @@
 -- `decimals::digits_of` meets its contract. The loop's invariant: the digits of n are those of `rest` before the ones that stand from i on. The
 -- measure is i. Assumes nothing.
-use mathlib.Core.Path.{◌≡◌, refl, sym, ◌∙◌}
+use mathlib.Core.Path.{◌≡◌}
 use mathlib.Core.List.{[]}
 use Prim.Native.Nat.{◌≤◌}
-use lib.ListN.{length, drop, length-set}
-use borrow.Author.Rules.{rules}
-use native.Mathlib.Omega.{arith}
+use lib.ListN.{length, drop}
 use Rattle.text.specs.Printing.{digits_before}
-use Rattle.script.proofs.DigitLaws.{digits_last, digits_more}
 use Rattle.script.proofs.decimals.digits_of.Given as goal
 
 abbrev pub invariant-loop-i : goal.invariant-loop-i

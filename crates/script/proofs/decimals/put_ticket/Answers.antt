@@ -2,7 +2,6 @@
 use mathlib.Core.Path.{◌≡◌, sym, ap, ◌∙◌}
 use Prim.Native.Nat.{◌-◌}
 use lib.ListN.{length, take, drop}
-use native.Mathlib.Omega.{arith}
 use Rattle.lists.proofs.Parts.{to_the_end}
 use Rattle.text.proofs.PrintingLaws.{then-puts, puts-same}
 use borrow.Author.Rules.{rules}

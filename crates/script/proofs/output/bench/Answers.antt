@@ -1,5 +1,4 @@
 -- `output::bench` meets its contract. Assumes nothing.
-use borrow.Author.Rules.{rules}
 use mathlib.Core.Path.{ap}
 use mathlib.Core.Bool.{false}
 use Rattle.replica.specs.declared.Settings.{Settings}

@@ -1,5 +1,4 @@
 -- `output::group` meets its contract. Assumes nothing.
-use borrow.Author.Rules.{rules}
 use mathlib.Core.Path.{sym, ap, ◌∙◌}
 use native.Mathlib.Omega.{arith}
 use Rattle.scram.specs.Answers.{answered}

@@ -1,5 +1,4 @@
 -- `output::opened` meets its contract. Assumes nothing.
-use borrow.Author.Rules.{rules}
 use mathlib.Core.Path.{sym, ap}
 use native.Mathlib.Omega.{arith}
 use Rattle.script.proofs.ScriptLaws.{prints-same, puts-prints}

@@ -2,20 +2,18 @@
 -- measure is the number of lines left. Assumes nothing.
 use mathlib.Core.Path.{◌≡◌, refl, sym, ◌∙◌}
 use Prim.Native.Nat.{◌-◌, ◌<◌}
-use lib.ListN.{length, take, drop}
+use lib.ListN.{length, drop}
 use borrow.Author.Rules.{rules}
 use native.Mathlib.Omega.{arith}
 use Rattle.script.specs.Play.{most}
-use Rattle.text.specs.Lines.{lines_of}
-use Rattle.script.specs.Script.{left, played}
 use Rattle.text.proofs.LineLaws.{lines_end, no_lines}
-use Rattle.script.proofs.Played.{Sofar, one_more, no_more}
+use Rattle.script.proofs.Played.{one_more, no_more}
 use Rattle.script.proofs.output.play_lines.Goals as goal
 
 pub loop-number-init : goal.loop-number-init
 loop-number-init c =
     let ten : length c.args.kept ≡ 10 =
-      search rules in
+    search rules in
     record {
       early = omega arith;
       ten = ten;
@@ -50,7 +48,7 @@ returns-then-text-at c =
 pub overflow_add-at : goal.overflow_add-at
 overflow_add-at c =
     let short : length c.args.text.now < 18446744073709551615 =
-      omega arith in
+    omega arith in
     omega (arith, short, c.line_end-stop.ensures.1)
 
 pub loop-number-smaller : goal.loop-number-smaller

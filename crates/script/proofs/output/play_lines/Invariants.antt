@@ -1,15 +1,11 @@
 -- `output::play_lines` meets its contract. The loop's invariant: the first lines were played, and what is left of the text leads to the same. The
 -- measure is the number of lines left. Assumes nothing.
-use mathlib.Core.Path.{◌≡◌, refl, sym, ◌∙◌}
-use Prim.Native.Nat.{◌-◌, ◌<◌}
-use lib.ListN.{length, take, drop}
-use borrow.Author.Rules.{rules}
-use native.Mathlib.Omega.{arith}
+use Prim.Native.Nat.{◌-◌}
+use lib.ListN.{take}
 use Rattle.script.specs.Play.{most}
 use Rattle.text.specs.Lines.{lines_of}
 use Rattle.script.specs.Script.{left, played}
-use Rattle.text.proofs.LineLaws.{lines_end, no_lines}
-use Rattle.script.proofs.Played.{Sofar, one_more, no_more}
+use Rattle.script.proofs.Played.{Sofar}
 use Rattle.script.proofs.output.play_lines.Given as goal
 
 abbrev pub invariant-loop-number : goal.invariant-loop-number

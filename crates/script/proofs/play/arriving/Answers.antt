@@ -1,5 +1,4 @@
 -- `play::arriving` meets its contract. Assumes nothing.
-use borrow.Author.Rules.{rules}
 use mathlib.Core.Path.{ap, ◌∙◌}
 use lib.ListN.{get_or}
 use Rattle.line.specs.Frames.{frame_of}

@@ -1,5 +1,4 @@
 -- `play::ask_event` meets its contract. Assumes nothing.
-use borrow.Author.Rules.{rules}
 use Rattle.script.proofs.PlayLaws.{leaves-ask}
 use Rattle.script.proofs.play.ask_event.Goals as goal
 

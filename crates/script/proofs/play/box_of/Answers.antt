@@ -1,5 +1,4 @@
 -- `play::box_of` meets its contract. Assumes nothing.
-use borrow.Author.Rules.{rules}
 use mathlib.Core.Path.{sym, ap}
 use Rattle.script.specs.Play.{box_in}
 use Rattle.script.proofs.play.box_of.Goals as goal

@@ -1,7 +1,5 @@
 -- `play::can_play` meets its contract. Assumes nothing.
-use borrow.Author.Rules.{rules}
 use mathlib.Core.Path.{sym, ◌∙◌}
-use borrow.Author.Tests.{not-true, not-false}
 use Rattle.script.proofs.play.can_play.Goals as goal
 
 pub returns-then-not-has_room : goal.returns-then-not-has_room

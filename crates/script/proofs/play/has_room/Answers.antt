@@ -1,6 +1,5 @@
 -- `play::has_room` meets its contract. Assumes nothing.
 use borrow.Author.Tests.{le-leb, lt-leb}
-use borrow.Author.Rules.{rules}
 use Rattle.script.specs.Play.{has_room}
 use Rattle.script.proofs.play.has_room.Goals as goal
 

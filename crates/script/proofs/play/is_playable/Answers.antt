@@ -1,5 +1,4 @@
 -- `play::is_playable` meets its contract. Assumes nothing.
-use borrow.Author.Rules.{rules}
 use mathlib.Core.Path.{sym, ap, ◌∙◌}
 use Rattle.script.specs.Play.{playable}
 use Rattle.script.proofs.PlayLaws.{others-playable}

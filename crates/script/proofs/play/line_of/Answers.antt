@@ -1,5 +1,4 @@
 -- `play::line_of` meets its contract. Assumes nothing.
-use borrow.Author.Rules.{rules}
 use mathlib.Core.Path.{sym, ap}
 use Rattle.script.specs.Play.{line_in}
 use Rattle.script.proofs.PlayLaws.{no_line}

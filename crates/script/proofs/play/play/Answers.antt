@@ -1,7 +1,5 @@
 -- `play::play` meets its contract. Assumes nothing.
-use borrow.Author.Rules.{rules}
 use mathlib.Core.Path.{sym, ◌∙◌}
-use borrow.Author.Tests.{not-true, not-false}
 use Rattle.script.proofs.PlayLaws.{room, leaves-bad, leaves-asked, leaves-played}
 use Rattle.script.proofs.play.play.Goals as goal
 

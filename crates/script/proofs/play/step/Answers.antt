@@ -1,5 +1,4 @@
 -- `play::step` meets its contract. Assumes nothing.
-use borrow.Author.Rules.{rules}
 use mathlib.Core.Path.{sym, subst}
 use Rattle.script.specs.Boxes.{Gives}
 use Rattle.script.specs.Play.{effect_of}

@@ -1,7 +1,6 @@
 -- `printing::bad_line` meets its contract. Assumes nothing.
 use Rattle.script.specs.Printing.{bad_line}
 use Rattle.text.proofs.PrintingLaws.{then-puts}
-use borrow.Author.Rules.{rules}
 use Rattle.script.proofs.printing.bad_line.Goals as goal
 
 pub returns : goal.returns

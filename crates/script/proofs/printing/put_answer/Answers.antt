@@ -3,7 +3,6 @@ use mathlib.Core.Path.{sym, ap}
 use Rattle.text.proofs.PrintingLaws.{puts-same}
 use Rattle.scram.specs.Answers.{answered}
 use Rattle.script.specs.Printing.{answer_word}
-use borrow.Author.Rules.{rules}
 use Rattle.script.proofs.printing.put_answer.Goals as goal
 
 pub returns-in-Done : goal.returns-in-Done

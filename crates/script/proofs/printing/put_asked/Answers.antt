@@ -1,5 +1,4 @@
 -- `printing::put_asked` meets its contract. Assumes nothing.
-use borrow.Author.Rules.{rules}
 use borrow.Author.Tests.{eq-eqb, ne_eqb}
 use Rattle.lists.specs.Choice.{pick}
 use Rattle.text.proofs.PrintingLaws.{then-puts}

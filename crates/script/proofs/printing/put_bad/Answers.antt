@@ -1,5 +1,4 @@
 -- `printing::put_bad` meets its contract. Assumes nothing.
-use borrow.Author.Rules.{rules}
 use Rattle.script.specs.Printing.{bad_alone}
 use Rattle.script.proofs.printing.put_bad.Goals as goal
 

@@ -2,11 +2,10 @@
 use mathlib.Core.Path.{◌≡◌, ap, ◌∙◌}
 use lib.ListN.{length, take}
 use borrow.Author.Tests.{eq-eqb, ne_eqb}
-use native.Mathlib.Omega.{arith}
 use Rattle.lists.specs.Choice.{pick}
 use Rattle.text.specs.Printing.{listed}
 use Rattle.script.specs.Printing.{command_word}
-use Rattle.text.proofs.PrintingLaws.{then-puts, puts-same, in_use, in-use-le}
+use Rattle.text.proofs.PrintingLaws.{then-puts, puts-same, in_use}
 use borrow.Author.Rules.{rules}
 use Rattle.script.proofs.printing.put_command.Goals as goal
 

@@ -1,7 +1,6 @@
 -- `printing::put_counters` meets its contract. Assumes nothing.
 use Rattle.script.specs.Printing.{counter_words}
 use Rattle.text.proofs.PrintingLaws.{then-puts}
-use borrow.Author.Rules.{rules}
 use Rattle.script.proofs.printing.put_counters.Goals as goal
 
 pub returns : goal.returns

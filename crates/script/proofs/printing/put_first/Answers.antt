@@ -1,5 +1,4 @@
 -- `printing::put_first` meets its contract. Assumes nothing.
-use borrow.Author.Rules.{rules}
 use Rattle.text.proofs.PrintingLaws.{then-puts}
 use Rattle.script.specs.Printing.{first_words}
 use Rattle.script.proofs.printing.put_first.Goals as goal

@@ -1,7 +1,6 @@
 -- `printing::put_head` meets its contract. Assumes nothing.
 use Rattle.script.specs.Printing.{head_words}
 use Rattle.text.proofs.PrintingLaws.{then-puts}
-use borrow.Author.Rules.{rules}
 use Rattle.script.proofs.printing.put_head.Goals as goal
 
 pub returns : goal.returns

@@ -1,5 +1,4 @@
 -- `printing::put_header` meets its contract. Assumes nothing.
-use borrow.Author.Rules.{rules}
 use Rattle.script.specs.Printing.{header_line}
 use Rattle.script.proofs.printing.put_header.Goals as goal
 

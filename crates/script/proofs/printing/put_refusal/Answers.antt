@@ -1,6 +1,5 @@
 -- `printing::put_refusal` meets its contract. Assumes nothing.
 use Rattle.text.proofs.PrintingLaws.{then-puts}
-use borrow.Author.Rules.{rules}
 use Rattle.script.proofs.printing.put_refusal.Goals as goal
 
 pub returns : goal.returns

@@ -3,7 +3,6 @@ use borrow.Author.Tests.{eq-eqb, ne_eqb}
 use Rattle.script.specs.Printing.{sent_word}
 use Rattle.lists.specs.Choice.{pick}
 use Rattle.text.proofs.PrintingLaws.{then-puts}
-use borrow.Author.Rules.{rules}
 use Rattle.script.proofs.printing.put_sent.Goals as goal
 
 pub returns-then-size-eq0 : goal.returns-then-size-eq0

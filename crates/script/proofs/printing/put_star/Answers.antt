@@ -1,6 +1,5 @@
 -- `printing::put_star` meets its contract. Assumes nothing.
 use mathlib.Core.Path.{sym, ◌∙◌}
-use borrow.Author.Rules.{rules}
 use Rattle.lists.specs.Choice.{pick}
 use Rattle.script.specs.Printing.{star_word}
 use Rattle.script.proofs.printing.put_star.Goals as goal

@@ -1,10 +1,9 @@
 -- `printing::put_state` meets its contract. Assumes nothing.
 use mathlib.Core.Path.{◌≡◌, ap}
 use lib.ListN.{length}
-use native.Mathlib.Omega.{arith}
 use Rattle.text.specs.Printing.{listed}
 use Rattle.script.specs.Printing.{state_word}
-use Rattle.text.proofs.PrintingLaws.{then-puts, puts-same, in_use, in-use-le}
+use Rattle.text.proofs.PrintingLaws.{then-puts, puts-same, in_use}
 use Rattle.script.proofs.LineLengths.{state-length}
 use borrow.Author.Rules.{rules}
 use Rattle.script.proofs.printing.put_state.Goals as goal

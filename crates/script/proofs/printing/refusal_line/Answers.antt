@@ -1,5 +1,4 @@
 -- `printing::refusal_line` meets its contract. Assumes nothing.
-use borrow.Author.Rules.{rules}
 use Rattle.text.proofs.PrintingLaws.{then-puts}
 use Rattle.script.specs.Printing.{refusal_line}
 use Rattle.script.proofs.printing.refusal_line.Goals as goal

@@ -1,5 +1,4 @@
 -- `printing::step_line` meets its contract. Assumes nothing.
-use borrow.Author.Rules.{rules}
 use Rattle.scram.specs.Answers.{answered}
 use Rattle.text.proofs.PrintingLaws.{then-puts}
 use Rattle.script.specs.Printing.{step_line}

@@ -1,14 +1,12 @@
 -- Laws of a line played: what its event gives decides what the line leaves. Assumes nothing.
 use mathlib.Core.Path.{◌≡◌, refl, ap, ◌∙◌, subst}
 use mathlib.Core.Bool.{Bool, true, false, ◌&&◌}
-use mathlib.Core.List.{List, [], ◌∷◌}
+use mathlib.Core.List.{List}
 use Prim.Native.Nat.{ℕ, ◌+◌, ◌≤◌}
 use native.Mathlib.Omega.{arith}
 use lib.Dec.{leb, ltb}
 use lib.ListN.{length, set}
 use borrow.Author.Tests.{leb-true, ltb-true}
-use denote.Enum.Declared.{tag_of}
-use types.Run.{OneOf, miss}
 use Rattle.lists.specs.Choice.{pick}
 use Rattle.lists.proofs.Booleans.{both, never}
 use Rattle.scram.specs.Answers.{Answered, answered}
@@ -17,7 +15,6 @@ use Rattle.text.specs.Printing.{Puts}
 use Rattle.text.proofs.PrintingLaws.{puts-same}
 use Rattle.line.specs.declared.events.Event.{Event}
 use Rattle.line.specs.declared.events.Event.TheVariants.{Tick, GiveUp, Deliver, Store, Return, Commit, StoreAsked, Bad}
-use Rattle.line.specs.contracts.events.Event as Events
 use Rattle.line.specs.Frames.{was_sent, kept as sent_kept}
 use Rattle.script.specs.declared.boxes.Outgoing.{Outgoing}
 use Rattle.script.specs.declared.boxes.Kept.{Kept}
@@ -72,11 +69,11 @@ leaves-ask {a} {r} event at who number text text' end g w line =
 -- ---- events by their kinds
 
 -- any other event delivers nothing
-pub no_line : (e : Event) → OneOf (0 ∷ 1 ∷ 3 ∷ 4 ∷ 5 ∷ 6 ∷ 7 ∷ []) (tag_of Events.the_type e) → 0 ≡ line_in e
+pub no_line : (e : Event) → ((at f : ℕ) → e ≡ Deliver at f → ⊥) → 0 ≡ line_in e
 unfolding line_in
 no_line (Tick at) k = refl
 no_line (GiveUp at) k = refl
-no_line (Deliver at f) k = absurd (miss (0 ∷ 1 ∷ 3 ∷ 4 ∷ 5 ∷ 6 ∷ 7 ∷ []) 2 tt k)
+no_line (Deliver at f) k = absurd (k at f refl)
 no_line (Store at) k = refl
 no_line (Return at n) k = refl
 no_line (Commit at t) k = refl
@@ -85,16 +82,17 @@ no_line Bad k = refl
 
 -- any other event can be played
 pub others-playable : (stored asked : Bool) (e : Event) (number : ℕ) (lengths : List ℕ)
-    → OneOf (0 ∷ 1 ∷ 3 ∷ 5 ∷ []) (tag_of Events.the_type e) → true ≡ playable stored asked e number lengths
+    → ((at f : ℕ) → e ≡ Deliver at f → ⊥) → ((at n : ℕ) → e ≡ Return at n → ⊥) → ((at : ℕ) → e ≡ StoreAsked at → ⊥) → (e ≡ Bad → ⊥)
+    → true ≡ playable stored asked e number lengths
 unfolding playable
-others-playable stored asked (Tick at) number lengths k = refl
-others-playable stored asked (GiveUp at) number lengths k = refl
-others-playable stored asked (Deliver at f) number lengths k = absurd (miss (0 ∷ 1 ∷ 3 ∷ 5 ∷ []) 2 tt k)
-others-playable stored asked (Store at) number lengths k = refl
-others-playable stored asked (Return at n) number lengths k = absurd (miss (0 ∷ 1 ∷ 3 ∷ 5 ∷ []) 4 tt k)
-others-playable stored asked (Commit at t) number lengths k = refl
-others-playable stored asked (StoreAsked at) number lengths k = absurd (miss (0 ∷ 1 ∷ 3 ∷ 5 ∷ []) 6 tt k)
-others-playable stored asked Bad number lengths k = absurd (miss (0 ∷ 1 ∷ 3 ∷ 5 ∷ []) 7 tt k)
+others-playable stored asked (Tick at) number lengths d r s b = refl
+others-playable stored asked (GiveUp at) number lengths d r s b = refl
+others-playable stored asked (Deliver at f) number lengths d r s b = absurd (d at f refl)
+others-playable stored asked (Store at) number lengths d r s b = refl
+others-playable stored asked (Return at n) number lengths d r s b = absurd (r at n refl)
+others-playable stored asked (Commit at t) number lengths d r s b = refl
+others-playable stored asked (StoreAsked at) number lengths d r s b = absurd (s at refl)
+others-playable stored asked Bad number lengths d r s b = absurd (b refl)
 
 -- ---- room
 

@@ -1,0 +1,12 @@
+-- `printing::put_head` meets its contract. Assumes nothing.
+use Rattle.script.specs.Printing.{head_words}
+use Rattle.text.proofs.PrintingLaws.{then-puts}
+use Rattle.script.proofs.printing.put_head.Goals as goal
+
+pub returns : goal.returns
+unfolding head_words
+returns c =
+    then-puts
+    c.put_decimal-at.ensures
+    (then-puts c.put_counter-at.ensures
+    (then-puts c.put_byte-at.ensures c.put_answer.ensures))

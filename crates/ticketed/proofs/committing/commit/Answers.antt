@@ -3,7 +3,6 @@ use mathlib.Core.Path.{◌≡◌, sym, ◌∙◌}
 use mathlib.Core.Bool.{true}
 use lib.ListN.{length}
 use borrow.Author.Rules.{rules}
-use borrow.Author.Tests.{not-true, not-false}
 use Rattle.octets.specs.Words.{AllBytes}
 use Rattle.ticketed.specs.Lengths.{ticketed_length}
 use Rattle.ticketed.specs.Reading.{is_ticketed}
@@ -19,31 +18,31 @@ returns-then-not-ok c =
 pub commits-requires : goal.commits-requires
 commits-requires c =
     let is : is_ticketed c.args.area.now ≡ true =
-      sym c.read-found.ensures.ok ∙ c.if-not-ok.false in
+    sym c.read-found.ensures.ok ∙ c.if-not-ok.false in
     let long : length c.args.area.now ≡ ticketed_length =
-      (judged _ is).long in
+    (judged _ is).long in
     long
 
 pub returns-then-not-commits : goal.returns-then-not-commits
 returns-then-not-commits c =
     let is : is_ticketed c.args.area.now ≡ true =
-      sym c.read-found.ensures.ok ∙ c.if-not-ok.false in
+    sym c.read-found.ensures.ok ∙ c.if-not-ok.false in
     let d = commit-17 c.args.area.now c.args.ticket is (sym c.commits.ensures ∙ c.if-not-commits.true) in
     record { answer = d.0; area = d.1 }
 
 pub make_step-requires : goal.make_step-requires
 make_step-requires c =
     let is : is_ticketed c.args.area.now ≡ true =
-      sym c.read-found.ensures.ok ∙ c.if-not-ok.false in
+    sym c.read-found.ensures.ok ∙ c.if-not-ok.false in
     let long : length c.args.area.now ≡ ticketed_length =
-      (judged _ is).long in
+    (judged _ is).long in
     long
 
 pub returns : goal.returns
 unfolding AllBytes
 returns c =
     let is : is_ticketed c.args.area.now ≡ true =
-      sym c.read-found.ensures.ok ∙ c.if-not-ok.false in
+    sym c.read-found.ensures.ok ∙ c.if-not-ok.false in
     let bytes : AllBytes c.args.area.now = search rules in
     let d = commit-done c.args.area.now c.args.ticket is bytes (sym c.commits.ensures ∙ c.if-not-commits.false) in
     record { answer = d.0; area = c.make_step.ensures ∙ d.1 }

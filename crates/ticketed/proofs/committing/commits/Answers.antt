@@ -1,7 +1,6 @@
 -- `ticketed::committing::commits` meets its contract. Assumes nothing.
 use mathlib.Core.Path.{sym, ap, ◌∙◌}
 use lib.Dec.{eqb}
-use borrow.Author.Rules.{rules}
 use borrow.Author.Tests.{eq-eqb, ne_eqb}
 use Rattle.tickets.proofs.Laws.{another, the-latest}
 use Rattle.ticketed.specs.TicketsPart.{tickets_at}

@@ -1,5 +1,4 @@
 -- `ticketed::committing::make_step` meets its contract. Assumes nothing.
-use borrow.Author.Rules.{rules}
 use Rattle.ticketed.proofs.CommitLaws.{step-made}
 use Rattle.ticketed.proofs.committing.make_step.Goals as goal
 

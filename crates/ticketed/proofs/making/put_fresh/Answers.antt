@@ -1,6 +1,5 @@
 -- `ticketed::making::put_fresh` meets its contract. Assumes nothing.
 use mathlib.Core.Path.{ap, ◌∙◌}
-use borrow.Author.Rules.{rules}
 use Rattle.octets.specs.Areas.{put}
 use Rattle.records.specs.Lengths.{record_length}
 use Rattle.ticketed.proofs.MakeLaws.{fresh-part}

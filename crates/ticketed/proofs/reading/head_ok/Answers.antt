@@ -1,6 +1,5 @@
 -- `ticketed::reading::head_ok` meets its contract. Assumes nothing.
 use mathlib.Core.Bool.{and_assoc}
-use borrow.Author.Rules.{rules}
 use Rattle.lists.specs.Below.{all_below}
 use Rattle.records.specs.Reading.{zero_at}
 use Rattle.ticketed.specs.Reading.{head_ok}

@@ -2,8 +2,6 @@
 use mathlib.Core.Path.{◌≡◌, sym, ap, ◌∙◌}
 use native.Mathlib.Omega.{arith}
 use lib.ListN.{length}
-use borrow.Author.Rules.{rules}
-use borrow.Author.Tests.{not-true, not-false}
 use Rattle.lists.proofs.Choice.{pick-false}
 use Rattle.records.specs.Reading.{is_done}
 use Rattle.records.proofs.IsRecord.{read-is-done}
@@ -20,7 +18,7 @@ returns-then-not-tickets_ok c =
 pub slice_bounds-read-end : goal.slice_bounds-read-end
 slice_bounds-read-end c =
     let long : length c.args.area.now ≡ ticketed_length =
-      tickets-long c.args.area.now (sym c.tickets_ok.ensures ∙ c.if-not-tickets_ok.false) in
+    tickets-long c.args.area.now (sym c.tickets_ok.ensures ∙ c.if-not-tickets_ok.false) in
     omega (arith, long)
 
 pub returns : goal.returns
@@ -30,5 +28,5 @@ returns c =
     let is = record-judged b (sym c.tickets_ok.ensures ∙ c.if-not-tickets_ok.false) in
     record {
       ok = c.is_done.ensures ∙ ap is_done r.answer ∙ read-is-done (record_of b) ∙ is;
-      replica = r.replica ∙ replica-read b is
+      replica = r.replica ∙ replica-read b is;
     }

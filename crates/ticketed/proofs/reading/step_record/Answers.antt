@@ -1,5 +1,4 @@
 -- `ticketed::reading::step_record` meets its contract: the two parts are copied one after the other. Assumes nothing.
-use borrow.Author.Rules.{rules}
 use Rattle.ticketed.proofs.Judged.{step-copied}
 use Rattle.ticketed.proofs.reading.step_record.Goals as goal
 

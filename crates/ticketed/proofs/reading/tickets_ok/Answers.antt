@@ -1,7 +1,6 @@
 -- `ticketed::reading::tickets_ok` meets its contract. Assumes nothing.
 use mathlib.Core.Path.{sym, ◌∙◌}
-use borrow.Author.Rules.{rules}
-use borrow.Author.Tests.{eq-eqb, ne_eqb, not-true, not-false}
+use borrow.Author.Tests.{eq-eqb, ne_eqb}
 use Rattle.ticketed.proofs.Judged.{not-long, no-head, head_passed}
 use Rattle.ticketed.proofs.reading.tickets_ok.Goals as goal
 

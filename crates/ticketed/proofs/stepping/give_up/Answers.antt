@@ -3,7 +3,6 @@ use mathlib.Core.Path.{◌≡◌, refl, sym, ◌∙◌}
 use mathlib.Core.Bool.{true}
 use lib.ListN.{length}
 use borrow.Author.Rules.{rules}
-use borrow.Author.Tests.{not-true, not-false}
 use Rattle.lists.proofs.Choice.{pick_true}
 use Rattle.octets.specs.Words.{AllBytes}
 use Rattle.replica.specs.declared.Replica.{Replica}
@@ -22,19 +21,19 @@ returns-then-not-ok c =
 pub step_of-requires : goal.step_of-requires
 step_of-requires c =
     let is : is_ticketed c.args.replica.now ≡ true =
-      sym c.read-found.ensures.ok ∙ c.if-not-ok.false in
+    sym c.read-found.ensures.ok ∙ c.if-not-ok.false in
     (judged _ is).long
 
 pub returns : goal.returns
 unfolding AllBytes
 returns c =
     let is : is_ticketed c.args.replica.now ≡ true =
-      sym c.read-found.ensures.ok ∙ c.if-not-ok.false in
+    sym c.read-found.ensures.ok ∙ c.if-not-ok.false in
     let bytes : AllBytes c.args.replica.now = search rules in
     let replica-read : c.read-found.result.replica ≡ (ticketed_in c.args.replica.now).replica =
-      c.read-found.ensures.replica ∙ pick_true _ _ _ is in
+    c.read-found.ensures.replica ∙ pick_true _ _ _ is in
     let places : length c.give_up-stepped.result.replica.held.heard ≡ 10 =
-      ten c.give_up-stepped.result.replica.held _ c.give_up-stepped.type_inv.1.1.1.0.1.1.1.0 in
+    ten c.give_up-stepped.result.replica.held _ c.give_up-stepped.type_inv.1.1.1.0.1.1.1.0 in
     let a = c.args in
     let event : Replica → Outcomes = λ x. give_up_outcome x (length c.args.frame.now) (length c.args.command.now) in
     let n = c.step_of.ensures in

@@ -2,7 +2,6 @@
 use mathlib.Core.Path.{sym, ap, ◌∙◌}
 use mathlib.Core.List.{List, [], ◌∷◌}
 use Prim.Native.Nat.{ℕ}
-use borrow.Author.Rules.{rules}
 use Rattle.lists.proofs.Choice.{pick_true, pick-false}
 use Rattle.octets.specs.Areas.{put}
 use Rattle.ticketed.proofs.stepping.leave.Goals as goal

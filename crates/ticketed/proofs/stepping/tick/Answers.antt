@@ -4,7 +4,6 @@ use mathlib.Core.Bool.{true}
 use mathlib.Core.List.{List}
 use lib.ListN.{length}
 use borrow.Author.Rules.{rules}
-use borrow.Author.Tests.{not-true, not-false}
 use Rattle.lists.proofs.Choice.{pick_true}
 use Rattle.octets.specs.Words.{AllBytes}
 use Rattle.transmitters.specs.declared.Reading.{Reading}
@@ -26,19 +25,19 @@ returns-then-not-ok c =
 pub step_of-requires : goal.step_of-requires
 step_of-requires c =
     let is : is_ticketed c.args.replica.now ≡ true =
-      sym c.read-found.ensures.ok ∙ c.if-not-ok.false in
+    sym c.read-found.ensures.ok ∙ c.if-not-ok.false in
     (judged _ is).long
 
 pub returns : goal.returns
 unfolding AllBytes
 returns c =
     let is : is_ticketed c.args.replica.now ≡ true =
-      sym c.read-found.ensures.ok ∙ c.if-not-ok.false in
+    sym c.read-found.ensures.ok ∙ c.if-not-ok.false in
     let bytes : AllBytes c.args.replica.now = search rules in
     let replica-read : c.read-found.result.replica ≡ (ticketed_in c.args.replica.now).replica =
-      c.read-found.ensures.replica ∙ pick_true _ _ _ is in
+    c.read-found.ensures.replica ∙ pick_true _ _ _ is in
     let places : length c.tick-stepped.result.replica.held.heard ≡ 10 =
-      ten c.tick-stepped.result.replica.held _ c.tick-stepped.type_inv.1.1.1.0.1.1.1.0 in
+    ten c.tick-stepped.result.replica.held _ c.tick-stepped.type_inv.1.1.1.0.1.1.1.0 in
     let a = c.args in
     let with : List Reading → Replica → Outcomes = λ row x. tick_outcome x (converted_row row) (length a.frame.now) (length a.command.now) in
     let event : Replica → Outcomes = λ x. tick_outcome x (converted_row (readings_of c.args.kinds.now c.args.bits.now)) (length c.args.frame.now) (length c.args.command.now) in

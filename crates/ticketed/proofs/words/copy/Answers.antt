@@ -1,10 +1,8 @@
 -- `ticketed::words::copy` meets its contract. The loop's invariant: the first i bytes stand in the area. The measure is how many are left. Assumes nothing.
 use mathlib.Core.Path.{◌≡◌, refl, ◌∙◌}
-use Prim.Native.Nat.{◌-◌, ◌≤◌}
 use native.Mathlib.Omega.{arith}
-use lib.ListN.{length, length-set}
-use lib.Seq.{paste, paste-zero}
-use borrow.Author.Rules.{rules}
+use lib.ListN.{length-set}
+use lib.Seq.{paste-zero}
 use Rattle.octets.specs.Words.{part}
 use Rattle.ticketed.proofs.Halves.{one_more, all-copied}
 use Rattle.ticketed.proofs.words.copy.Goals as goal

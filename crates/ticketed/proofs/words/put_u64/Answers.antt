@@ -2,7 +2,6 @@
 use mathlib.Core.Path.{ap, ◌∙◌}
 use Prim.Native.Nat.{◌/◌, ◌%◌}
 use native.Mathlib.Omega.{arith}
-use borrow.Author.Rules.{rules}
 use Rattle.octets.specs.Words.{little_endian}
 use Rattle.octets.specs.Areas.{put}
 use Rattle.octets.proofs.Numbers.{length-little_endian}

@@ -1,7 +1,6 @@
 -- `ticketed::words::u64_at` meets its contract: the two halves that are read are those of the number. Assumes nothing.
 use mathlib.Core.Path.{sym, ap₂, ◌∙◌}
 use Prim.Native.Nat.{ℕ, ◌+◌, ◌*◌}
-use borrow.Author.Rules.{rules}
 use Rattle.ticketed.proofs.Halves.{number-of-halves}
 use Rattle.ticketed.proofs.words.u64_at.Goals as goal
 

@@ -1,57 +1,31 @@
 //! Frames as the first implementation reads them, a digest for each thousand:
 //! a reader is compared with one that came before it, whose digests are stored.
 
-use std::fs;
-
 use crate::areas::{Fields, Sizes};
 use crate::damage::LONGEST;
 use crate::digest::Digest;
+use crate::digest_lines;
 use crate::first;
 use crate::frames::{handed_to_reader, read_by, written_by, Written};
 use crate::prng::Prng;
 
-/// How many frames have a digest in common.
-const TOGETHER: usize = 1_000;
-
 /// Prints the lines.
 pub fn print(count: usize, seed: u64) -> Result<(), String> {
-    lines(count, seed).for_each(|line| println!("{line}"));
+    digest_lines::print(&lines(count, seed)?);
     Ok(())
 }
 
 /// Compares the lines with those of a file. The error says what differs first.
 pub fn compare(count: usize, seed: u64, file: &str) -> Result<(), String> {
-    let stored = fs::read_to_string(file).map_err(|error| format!("{file}: {error}"))?;
-    let made: Vec<String> = lines(count, seed).collect();
-    same(&made, &without_comment(&stored))
-        .map_err(|difference| format!("seed {seed}, {file}: {difference}"))?;
+    digest_lines::compare(&lines(count, seed)?, file)?;
     println!("{count} frames of seed {seed}: read as in {file}");
     Ok(())
 }
 
-/// The lines of a file that are no comment.
-fn without_comment(text: &str) -> Vec<&str> {
-    text.lines().filter(|line| !line.starts_with('#')).collect()
-}
-
-fn same(made: &[String], stored: &[&str]) -> Result<(), String> {
-    let mut pairs = made.iter().zip(stored);
-    if let Some((made, stored)) = pairs.find(|(made, stored)| made != *stored) {
-        return Err(format!("now {made:?}, stored {stored:?}"));
-    }
-    match made.len() == stored.len() {
-        true => Ok(()),
-        false => Err(format!("{} lines now, {} stored", made.len(), stored.len())),
-    }
-}
-
-/// For each thousand its first number, its last one and its digest.
-fn lines(count: usize, seed: u64) -> impl Iterator<Item = String> {
-    (1..=count).step_by(TOGETHER).map(move |first| {
-        let last = count.min(first + TOGETHER - 1);
-        let mut digest = Digest::default();
-        (first..=last).for_each(|number| Seen::new(seed, number).add_to(&mut digest));
-        format!("{first} {last} {digest}")
+fn lines(count: usize, seed: u64) -> Result<Vec<String>, String> {
+    digest_lines::lines(count, seed, |seed, number, digest| {
+        Seen::new(seed, number).add_to(digest);
+        Ok(())
     })
 }
 
@@ -108,23 +82,14 @@ fn add_fields(digest: &mut Digest, fields: &Fields) {
 #[cfg(test)]
 mod tests {
     use super::*;
+    use crate::digest_lines::without_comment;
 
     const STORED: &str = include_str!("../frames.digests");
 
     #[test]
     fn the_first_thousands_are_read_as_stored() {
-        let made: Vec<String> = lines(2_000, 1).collect();
+        let made = lines(2_000, 1).unwrap();
         assert_eq!(made, without_comment(STORED)[..2]);
-    }
-
-    #[test]
-    fn what_differs_is_told() {
-        let made = ["1 1000 a", "1001 2000 b"].map(str::to_string);
-        assert_eq!(same(&made, &["1 1000 a", "1001 2000 b"]), Ok(()));
-        let other = same(&made, &["1 1000 a", "1001 2000 c", "2001 3000 d"]);
-        assert!(other.unwrap_err().contains("1001 2000 b"));
-        assert!(same(&made, &["1 1000 a"]).is_err());
-        assert!(same(&made[..1], &["1 1000 a", "1001 2000 b"]).is_err());
     }
 
     fn digest_of(seen: &Seen) -> Digest {

@@ -1,8 +1,8 @@
 //! Compares frames, law calls, conversions of readings, steps, shift pages and
 //! calls on records and on replicas with tickets of the first implementation,
 //! through its static libraries `winder` and `steps`, with the second
-//! implementation of document 01; and what is read of frames with stored
-//! digests.
+//! implementation of document 01; and what is read of frames, and what calls on
+//! records leave, with stored digests.
 
 #![forbid(unsafe_code)]
 
@@ -13,6 +13,7 @@ mod commands;
 mod counterpart;
 mod damage;
 mod digest;
+mod digest_lines;
 mod digests;
 mod draft;
 mod events;
@@ -47,6 +48,7 @@ mod reach;
 mod record_calls;
 mod record_counts;
 mod record_damage;
+mod record_digests;
 mod record_events;
 mod record_group;
 mod record_layout;
@@ -89,6 +91,7 @@ const USAGE: &str = "usage:
   calls lists COUNT SEED
   calls pages COUNT SEED
   calls records COUNT SEED
+  calls record-digests COUNT SEED [FILE]
   calls tickets COUNT SEED
   calls faults SEED
   calls search frames|law|singles|steps|lists|pages|records|tickets SEED
@@ -120,6 +123,10 @@ fn run(words: &[&str]) -> Result<(), String> {
         ["pages", count, seed] => compare("pages", pages::compare, count, seed),
         ["records", count, seed] => {
             counted("calls on records", records::compare, count, seed)?.check()
+        }
+        ["record-digests", count, seed] => record_digests::print(number(count)?, number(seed)?),
+        ["record-digests", count, seed, file] => {
+            record_digests::compare(number(count)?, number(seed)?, file)
         }
         ["tickets", count, seed] => counted(
             "calls on replicas with tickets",

@@ -7,6 +7,7 @@ use second::replica::Quorums;
 use winder::RECORD;
 
 use crate::areas::{Sizes, PATTERN};
+use crate::digest::Digest;
 use crate::handed_readings::Handed;
 use crate::record_layout::Record;
 use crate::report::alike;
@@ -160,6 +161,16 @@ impl Left {
             true => &self.record[..RECORD],
             false => &self.area[..RECORD],
         }
+    }
+
+    /// Every byte, also those that the call left alone.
+    pub fn add_to(&self, digest: &mut Digest) {
+        digest.add(&self.answer.to_le_bytes());
+        self.lengths
+            .iter()
+            .for_each(|&length| digest.add_number(length));
+        let buffers: [&[u8]; 4] = [&self.record, &self.area, &self.frame, &self.command];
+        buffers.iter().for_each(|buffer| digest.add(buffer));
     }
 
     /// The frame that a step sent.

@@ -247,7 +247,7 @@ mod tests {
         let mut left = [[0; 2]; DAMAGES.len()];
         for number in 1..=8_000 {
             let prng = &mut Prng::of_script(2, number);
-            let mut record = Group::live(prng).unwrap().record_of_one(prng);
+            let mut record = Group::live(prng, None).unwrap().record_of_one(prng);
             assert!(second::record::read(&record).is_ok());
             let place = damage(prng, &mut record);
             let taken = second::record::read(&record).is_ok();

@@ -3,6 +3,7 @@
 //! take-overs, and boxes that return.
 
 use crate::areas::Sizes;
+use crate::digest::Digest;
 use crate::handed_readings;
 use crate::issued::Issued;
 use crate::law_call;
@@ -29,12 +30,15 @@ pub struct Group {
     pub issued: Issued,
     /// Quorums that it reached.
     pub reached: Reached,
+    /// Of what its calls left, where it is asked for.
+    pub digest: Option<Digest>,
 }
 
 impl Group {
-    /// A group that stops anywhere in its life. The error says what differs.
-    pub fn live(prng: &mut Prng) -> Result<Group, String> {
-        let mut group = Group::make(prng)?;
+    /// A group that stops anywhere in its life, with a digest or without. The
+    /// error says what differs.
+    pub fn live(prng: &mut Prng, digest: Option<Digest>) -> Result<Group, String> {
+        let mut group = Group::make(prng, digest)?;
         group.left = prng.below(STEPS_OF_BOX * group.records.len());
         while group.left > 0 {
             group.tick_most(prng)?;
@@ -48,7 +52,7 @@ impl Group {
         Ok(group)
     }
 
-    fn make(prng: &mut Prng) -> Result<Group, String> {
+    fn make(prng: &mut Prng, digest: Option<Digest>) -> Result<Group, String> {
         let (sizes, settings) = law_call::whole_settings(prng);
         let boxes = 3 + prng.below(7) as u8;
         let quorums = quorums::allowed(&mut prng.apart(), boxes);
@@ -59,6 +63,7 @@ impl Group {
             calls: 0,
             issued: Issued::default(),
             reached: Reached::default(),
+            digest,
         };
         for own in 1..=boxes {
             group.records.push(vec![]);
@@ -88,6 +93,9 @@ impl Group {
             lent: ENOUGH,
         };
         let left = called_by_both(&call)?;
+        if let Some(digest) = &mut self.digest {
+            left.add_to(digest);
+        }
         match left.answer {
             0 => {
                 self.records[place] = left.given(&call.asked).to_vec();

@@ -1,6 +1,7 @@
 //! The comparison of calls on records: a group lives for some steps, then one
 //! of its records, whole or damaged, goes into one more call.
 
+use crate::digest::Digest;
 use crate::prng::Prng;
 use crate::quorums;
 use crate::record_calls::{called_by_both, Asked, Call, Left};
@@ -13,12 +14,37 @@ use crate::{record_damage, record_events};
 /// The call of one number. The error says what differs.
 pub fn compare(seed: u64, number: usize, counts: &mut Counts) -> Result<(), String> {
     let prng = &mut Prng::of_script(seed, number);
-    let group = Group::live(prng)?;
+    let group = Group::live(prng, None)?;
+    let (call, damage) = make(prng, &group);
+    let left = called_by_both(&call)?;
+    if damage == 0 && left.answer == 15 {
+        return Err(format!("a whole record is refused: {call:?}"));
+    }
+    check_given_back(&call, &left)?;
+    check_quorums(&call, damage, &left)?;
+    counts.count_group(&group);
+    counts.count(&call, damage, &left);
+    Ok(())
+}
+
+/// Adds what all calls of one number leave, those of its group first.
+pub fn add(seed: u64, number: usize, digest: &mut Digest) -> Result<(), String> {
+    let prng = &mut Prng::of_script(seed, number);
+    let mut group = Group::live(prng, Some(digest.clone()))?;
+    *digest = group.digest.take().expect("the digest of its calls");
+    let (call, _) = make(prng, &group);
+    called_by_both(&call)?.add_to(digest);
+    Ok(())
+}
+
+/// A call for a record of the group, with what was done to the record: the
+/// place in `DAMAGES`.
+fn make(prng: &mut Prng, group: &Group) -> (Call, usize) {
     let mut record = group.record_of_one(prng);
     if prng.chance(20) {
         record_events::push_counters(prng, &mut record);
     }
-    let asked = record_events::make(prng, &record, &group);
+    let asked = record_events::make(prng, &record, group);
     let damage = match asked {
         Asked::Make(_) => {
             record.clear();
@@ -32,15 +58,7 @@ pub fn compare(seed: u64, number: usize, counts: &mut Counts) -> Result<(), Stri
         asked,
         lent,
     };
-    let left = called_by_both(&call)?;
-    if damage == 0 && left.answer == 15 {
-        return Err(format!("a whole record is refused: {call:?}"));
-    }
-    check_given_back(&call, &left)?;
-    check_quorums(&call, damage, &left)?;
-    counts.count_group(&group);
-    counts.count(&call, damage, &left);
-    Ok(())
+    (call, damage)
 }
 
 /// Recording gives the very bytes, and so does returning with none missed.

@@ -3,6 +3,7 @@
 
 use winder::{IGNORED, RECORD, TICKETED};
 
+use crate::digest::Digest;
 use crate::issued::Issued;
 use crate::quorum_reach::Reached;
 use crate::record_calls::{self, Asked, Lent, Making};
@@ -25,6 +26,8 @@ pub struct TicketBox {
     pub issued: Issued,
     /// Quorums that they reached.
     pub reached: Reached,
+    /// Of what they left, where it is asked for.
+    digest: Option<Digest>,
 }
 
 /// The last ticket of each sort that is not to be taken any more.
@@ -45,7 +48,7 @@ pub struct Offer {
 }
 
 impl TicketBox {
-    pub fn make(making: Making) -> Result<TicketBox, String> {
+    pub fn make(making: Making, digest: Option<Digest>) -> Result<TicketBox, String> {
         let stored = recorded(vec![], Asked::Make(Box::new(making)))?;
         let replica = with_tickets(&stored)?;
         let spent = Spent::default();
@@ -55,6 +58,7 @@ impl TicketBox {
             spent,
             issued: Issued::default(),
             reached: Reached::default(),
+            digest,
         })
     }
 
@@ -139,6 +143,14 @@ impl TicketBox {
         }
     }
 
+    /// Adds what all its calls left, and what making or returning gave.
+    pub fn add_to(&self, digest: &mut Digest) {
+        let own = self.digest.as_ref().map(Digest::to_string);
+        digest.add(own.unwrap_or_default().as_bytes());
+        digest.add(&self.replica);
+        digest.add(&self.stored);
+    }
+
     fn call(&mut self, name: Name) -> Result<Left, String> {
         let call = Call {
             replica: self.replica.clone(),
@@ -146,6 +158,9 @@ impl TicketBox {
             lent: ENOUGH,
         };
         let left = called_by_both(&call)?;
+        if let Some(digest) = &mut self.digest {
+            left.add_to(digest);
+        }
         self.replica.copy_from_slice(&left.replica[..TICKETED]);
         self.issued.count(&left.command, left.lengths[1]);
         if let Some((arrived, sent)) = done(&call, &left) {

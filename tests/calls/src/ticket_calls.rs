@@ -3,6 +3,7 @@
 use std::fmt;
 
 use crate::areas::PATTERN;
+use crate::digest::Digest;
 use crate::handed_readings::Handed;
 use crate::record_calls::Lent;
 use crate::report::alike;
@@ -127,6 +128,17 @@ impl Left {
             frame: [PATTERN; STEP_BUFFER],
             command: [PATTERN; STEP_BUFFER],
         }
+    }
+
+    /// Every byte, also those that the call left alone.
+    pub fn add_to(&self, digest: &mut Digest) {
+        digest.add(&self.answer.to_le_bytes());
+        self.lengths
+            .iter()
+            .for_each(|&length| digest.add_number(length));
+        digest.add(&self.ticket[0].to_le_bytes());
+        let buffers: [&[u8]; 4] = [&self.replica, &self.area, &self.frame, &self.command];
+        buffers.iter().for_each(|buffer| digest.add(buffer));
     }
 
     /// The frame that a step sends.

@@ -167,7 +167,7 @@ mod tests {
         let mut of_left = [[[0; 2]; 2]; record_damage::DAMAGES.len()];
         for number in 1..=20_000 {
             let prng = &mut Prng::of_script(2, number);
-            let (mut one, traffic) = Group::live(prng).unwrap().into_one(prng);
+            let (mut one, traffic) = Group::live(prng, None).unwrap().into_one(prng);
             open_one(prng, &mut one, &traffic).unwrap();
             let mut replica = one.replica;
             assert!(is_taken(&replica));

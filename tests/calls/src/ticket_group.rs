@@ -2,6 +2,7 @@
 //! given-up views, open take-overs, tickets never committed, and boxes that
 //! return.
 
+use crate::digest::Digest;
 use crate::handed_readings;
 use crate::issued::Issued;
 use crate::law_call;
@@ -46,9 +47,9 @@ pub struct Group {
 
 impl Group {
     /// A group that stops anywhere in its life, between an ask and its commit
-    /// too. The error says what differs.
-    pub fn live(prng: &mut Prng) -> Result<Group, String> {
-        let mut group = Group::make(prng)?;
+    /// too; its boxes have a digest or none. The error says what differs.
+    pub fn live(prng: &mut Prng, digest: Option<Digest>) -> Result<Group, String> {
+        let mut group = Group::make(prng, digest)?;
         group.left = prng.below(CALLS_OF_BOX * group.boxes.len());
         while group.left > 0 {
             group.tick_most(prng)?;
@@ -62,18 +63,19 @@ impl Group {
         Ok(group)
     }
 
-    fn make(prng: &mut Prng) -> Result<Group, String> {
+    fn make(prng: &mut Prng, digest: Option<Digest>) -> Result<Group, String> {
         let (sizes, settings) = law_call::whole_settings(prng);
         let boxes = 3 + prng.below(7) as u8;
         let quorums = quorums::allowed(&mut prng.apart(), boxes);
         let made = (1..=boxes).map(|own| {
-            TicketBox::make(Making {
+            let making = Making {
                 boxes,
                 own,
                 quorums,
                 sizes,
                 settings,
-            })
+            };
+            TicketBox::make(making, digest.clone())
         });
         let mut group = Group {
             boxes: made.collect::<Result<_, _>>()?,
@@ -197,6 +199,11 @@ impl Group {
             }
         }
         Ok(())
+    }
+
+    /// Adds what the calls of all boxes left.
+    pub fn add_to(&self, digest: &mut Digest) {
+        self.boxes.iter().for_each(|one| one.add_to(digest));
     }
 
     /// Commands that asks and steps of all boxes gave.

@@ -4,6 +4,7 @@
 
 use winder::{IGNORED, RECORD, TICKETED};
 
+use crate::digest::Digest;
 use crate::prng::Prng;
 use crate::record_damage::OF_QUORUMS;
 use crate::record_layout::has_allowed_quorums;
@@ -18,19 +19,9 @@ use crate::ticket_lent;
 /// The call of one number. The error says what differs.
 pub fn compare(seed: u64, number: usize, counts: &mut Counts) -> Result<(), String> {
     let prng = &mut Prng::of_script(seed, number);
-    let group = Group::live(prng)?;
+    let group = Group::live(prng, None)?;
     counts.count_group(&group);
-    let (mut one, traffic) = group.into_one(prng);
-    ticket_events::open_one(prng, &mut one, &traffic)?;
-    ticket_events::push_numbers(prng, &mut one);
-    let name = ticket_events::make(prng, &one, &traffic);
-    let (replica, damage) = ticket_damage::handed_in(prng, &name, one.replica);
-    let lent = ticket_lent::make(prng, &name);
-    let call = Call {
-        replica,
-        name,
-        lent,
-    };
+    let (call, damage) = make(prng, group)?;
     let left = called_by_both(&call)?;
     if damage == Damage::Whole && left.answer == 15 {
         return Err(format!("a whole replica is refused: {call:?}"));
@@ -43,6 +34,32 @@ pub fn compare(seed: u64, number: usize, counts: &mut Counts) -> Result<(), Stri
     check_as_step(&call, &left, counts)?;
     counts.count(&call, damage, &left);
     Ok(())
+}
+
+/// Adds what all calls of one number leave, those of its group first.
+pub fn add(seed: u64, number: usize, digest: &mut Digest) -> Result<(), String> {
+    let prng = &mut Prng::of_script(seed, number);
+    let group = Group::live(prng, Some(Digest::default()))?;
+    group.add_to(digest);
+    let (call, _) = make(prng, group)?;
+    called_by_both(&call)?.add_to(digest);
+    Ok(())
+}
+
+/// A call for a replica of the group, with what was done to the replica.
+fn make(prng: &mut Prng, group: Group) -> Result<(Call, Damage), String> {
+    let (mut one, traffic) = group.into_one(prng);
+    ticket_events::open_one(prng, &mut one, &traffic)?;
+    ticket_events::push_numbers(prng, &mut one);
+    let name = ticket_events::make(prng, &one, &traffic);
+    let (replica, damage) = ticket_damage::handed_in(prng, &name, one.replica);
+    let lent = ticket_lent::make(prng, &name);
+    let call = Call {
+        replica,
+        name,
+        lent,
+    };
+    Ok((call, damage))
 }
 
 /// Where the answer is not the event's, it is the only one that may be.
@@ -128,7 +145,7 @@ mod tests {
     fn the_calls_on_records_take_no_replica_with_tickets() {
         for number in 1..=500 {
             let prng = &mut Prng::of_script(3, number);
-            let (one, _) = Group::live(prng).unwrap().into_one(prng);
+            let (one, _) = Group::live(prng, None).unwrap().into_one(prng);
             for asked in [
                 Asked::Tick {
                     readings: handed_readings::below(prng, 0),

@@ -1,16 +1,10 @@
 -- What the calls of a replica with tickets answer and leave. Assumes nothing.
-use mathlib.Core.Path.{◌≡◌, refl, sym, ap, subst, ◌∙◌}
-use mathlib.Core.Logic.{inl, inr, ◌≢◌}
-use mathlib.Core.Bool.{Bool, true, false, not}
-use mathlib.Core.List.{List, []}
-use Prim.Native.Nat.{ℕ}
-use lib.Dec.{T, eqb}
-use lib.ListN.{length}
-use lib.IntN.{ℤ}
+use Rattle.std.specs.Prelude.{◌≡◌, refl, ◌≢◌, Bool, true, false, not, List, [], ℕ, T, eqb, length, ℤ, IsErr}
+use Rattle.std.proofs.Common.{sym, ap, subst, ◌∙◌, inl, inr}
 use Rattle.lists.specs.Choice.{pick}
 use Rattle.lists.proofs.Choice.{pick-holds, pick-false}
 use Rattle.readings.specs.declared.Readings.{Readings}
-use Rattle.scram.specs.Answers.{Answered, Done, Ignored, Refused, answered}
+use Rattle.scram.specs.Answers.{Answered, Done, Ignored, Refused, answered, answered_of}
 use Rattle.scram.specs.History.{In}
 use Rattle.scram.specs.Held.{Held}
 use Rattle.law.specs.Settings.{refusals}
@@ -25,19 +19,12 @@ use Rattle.tickets.specs.Tickets.{is_spent, commits}
 use Rattle.tickets.proofs.Laws.{step-not-made}
 use Rattle.asks.specs.declared.Ticketed.{Ticketed}
 use Rattle.asks.specs.Asking.{tickets_of, tickets_in, answer_before, outcome_after, ask_outcome, asked_record, commit_answer}
-use Rattle.asks.proofs.CommitLaws.{commit-refuses}
 use Rattle.answers.specs.Answers.{numbered, ticking, giving_up, arriving, asking_tick, asking_give_up, asking_arrive, committing}
 use Rattle.answers.specs.Kept.{AskKept, TicketedKept}
 use Rattle.answers.specs.Demand1.{AskAnswers, CommitAnswers, TicketedAnswers}
-use Rattle.answers.proofs.Numbers.{all_listed, first-in, refusal-in, answers-as}
+use Rattle.answers.proofs.Numbers.{all_listed, first-in, refusal-in, answers-as, none_given, not_done}
 use Rattle.answers.proofs.Outcomes.{Still, Step, refuses, ignores}
 use Rattle.answers.proofs.Replica.{tick-outcome, give-up-outcome, arrive-outcome}
-
--- an answer other than "what was called for" is not done
-pub not_done : (a : Answered) → a ≢ Done → is_done a ≡ false
-not_done Done n = absurd (n refl)
-not_done Ignored n = refl
-not_done (Refused number) n = refl
 
 -- ---- asks
 
@@ -118,17 +105,10 @@ unfolding pick
 committing-in true = inl refl
 committing-in false = inr (inl refl)
 
--- a ticket that is not taken
-not_taken : (b : Bool) → pick b Done (Refused 17) ≢ Done → b ≡ false
-unfolding pick
-not_taken true n = absurd (n refl)
-not_taken false n = refl
-
 pub commit-call : (given : Ticketed) (ticket : ℕ) → CommitAnswers given ticket
-commit-call given ticket r e same =
-    answers-as committing tt (answered r.answer) (commit_answer given ticket) e (committing-in (commits (tickets_of given.tickets) ticket))
-    (r.ticketed ≡ given)
-    (λ n. same ∙ sym (commit-refuses given ticket (not_taken (commits (tickets_of given.tickets) ticket) n)).1)
+commit-call given ticket r e ticketed =
+    answers-as committing tt (answered_of r) (commit_answer given ticket) e (committing-in (commits (tickets_of given.tickets) ticket)) (IsErr r)
+    (none_given r (commit_answer given ticket) e)
 
 -- ---- steps that were not asked
 

@@ -1,30 +1,22 @@
 -- What the frames' calls answer and leave, in Rattle and for C programs. Assumes nothing.
-use mathlib.Core.Path.{◌≡◌, refl, sym, ap, ◌∙◌}
-use mathlib.Core.Logic.{inl}
-use mathlib.Core.Bool.{Bool}
-use mathlib.Core.List.{List, []}
-use Prim.Native.Nat.{ℕ}
-use lib.Dec.{T}
-use lib.ListN.{length}
-use lib.IntN.{ℤ}
+use Rattle.std.specs.Prelude.{◌≡◌, refl, Bool, List, [], ℕ, T, length, ℤ, IsErr}
+use Rattle.std.proofs.Common.{sym, ap, ◌∙◌, inl}
+use Rattle.refusal.specs.Numbers.{number_of}
 use Rattle.scram.specs.Answers.{Answered}
 use Rattle.scram.specs.History.{In}
 use Rattle.octets.specs.Areas.{over}
 use Rattle.frame.specs.declared.Frame.{Frame}
-use Rattle.frame.specs.Answers.{number}
-use Rattle.frame.specs.Fields.{blank}
 use Rattle.frame.specs.Reading.{read_refusal}
 use Rattle.frame.specs.Writing.{write_refusal, written}
 use Rattle.frame.specs.Command.{command_refusal, command_written}
-use Rattle.frame.specs.CommandReading.{read_command_refusal, no_command}
-use Rattle.frame.proofs.Refusals.{no-frame, nothing_written, no-command}
-use Rattle.frame.proofs.CommandReading.{no-command-read}
+use Rattle.frame.specs.CommandReading.{read_command_refusal}
+use Rattle.frame.proofs.Refusals.{nothing_written, no-command}
 use Rattle.winder.specs.Areas.{unless_refused}
 use Rattle.winder.proofs.Refused.{refused}
 use Rattle.answers.specs.Answers.{numbered, reading, writing, writing_command}
 use Rattle.answers.specs.Kept.{WriteKept, FrameAreas, CommandAreas, WriteAreas}
 use Rattle.answers.specs.Demand1.{ReadAnswers, ReadCommandAnswers, WriteAnswers, ReadAreaAnswers, ReadCommandAreaAnswers, WriteAreaAnswers}
-use Rattle.answers.proofs.Numbers.{all_listed, first-in, answers, positive}
+use Rattle.answers.proofs.Numbers.{all_listed, first-in, answers, positive, none_numbered}
 
 -- an area of a refused call
 left : {A : Type 0} (number : ℕ) (area' given held : A) → (number ≡ 0 → ⊥) → area' ≡ unless_refused number given held → area' ≡ held
@@ -39,8 +31,7 @@ module _ (n m : ℕ) (bytes : List ℕ) where
 
   pub read-answers : ReadAnswers n m bytes
   read-answers r e frame =
-      answers reading tt (number r.answer) (read_refusal n m bytes) e reading-in (r.frame ≡ blank)
-      (λ z. frame ∙ no-frame n m bytes _ (positive _ z))
+      answers reading tt (number_of r) (read_refusal n m bytes) e reading-in (IsErr r) (none_numbered r (read_refusal n m bytes) e)
 
   pub read-area-answers : (areas : FrameAreas) → ReadAreaAnswers n m bytes areas
   read-area-answers areas r areas' e kind_and_sender counters state present values =
@@ -60,8 +51,7 @@ module _ (p : ℕ) (bytes : List ℕ) where
 
   pub read-command-answers : ReadCommandAnswers p bytes
   read-command-answers r e command =
-      answers reading tt (number r.answer) (read_command_refusal p bytes) e reading-command-in (r.command ≡ no_command)
-      (λ z. command ∙ no-command-read p bytes _ (positive _ z))
+      answers reading tt (number_of r) (read_command_refusal p bytes) e reading-command-in (IsErr r) (none_numbered r (read_command_refusal p bytes) e)
 
   pub read-command-area-answers : (areas : CommandAreas) → ReadCommandAreaAnswers p bytes areas
   read-command-area-answers areas r areas' e period commands limited =
@@ -71,11 +61,11 @@ module _ (p : ℕ) (bytes : List ℕ) where
 -- ---- writing
 
 -- a call that writes nothing where it is refused
-write-answers-of : (possible : List Answered) → T (all_listed possible) → (refused : ℕ) → In (numbered refused) possible
+pub write-answers-of : (possible : List Answered) → T (all_listed possible) → (refused : ℕ) → In (numbered refused) possible
     → (bytes area : List ℕ) → ((refused ≡ 0 → ⊥) → bytes ≡ []) → WriteAnswers possible refused bytes area
 write-answers-of possible t refused i bytes area nothing r area' e count same =
-    answers possible t (number r.answer) refused e i (WriteKept r area area')
-    (λ z. record { lent-area = same ∙ ap (λ b. over b area) (nothing z); no_bytes = count ∙ ap length (nothing z) })
+    answers possible t (number_of r) refused e i (WriteKept r area area')
+    (λ z. record { lent-area = same ∙ ap (λ b. over b area) (nothing z); no_bytes = none_numbered r refused e z })
 
 module _ (n m : ℕ) (f : Frame) (area : List ℕ) where
   writing-in : In (numbered (write_refusal n m f area)) writing

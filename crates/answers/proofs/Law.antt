@@ -1,23 +1,18 @@
 -- What the law's calls answer and leave, in Rattle and for C programs. Assumes nothing.
-use mathlib.Core.Path.{◌≡◌, refl, sym, ◌∙◌}
-use mathlib.Core.Logic.{inl}
-use mathlib.Core.Bool.{false}
-use mathlib.Core.List.{List}
-use Prim.Native.Nat.{ℕ}
-use lib.ListN.{replicate}
-use lib.IntN.{ℤ, pos}
+use Rattle.std.specs.Prelude.{ℕ, List, ℤ, ◌≡◌, IsErr, refl}
+use Rattle.std.proofs.Common.{sym, ◌∙◌, inl}
 use Rattle.readings.specs.declared.Readings.{Readings}
+use Rattle.refusal.specs.Numbers.{number_of}
 use Rattle.scram.specs.History.{In}
 use Rattle.law.specs.declared.Settings.{Settings}
-use Rattle.law.specs.Answer.{number}
 use Rattle.law.specs.Settings.{refusals, refusal}
 use Rattle.law.specs.Law.{commanded}
-use Rattle.law.proofs.Laws.{updated-refused, update-limited-refused, commanded-refused, command-limited-refused}
+use Rattle.law.proofs.Laws.{updated-refused}
 use Rattle.winder.specs.LawAreas.{readings_of}
 use Rattle.winder.proofs.Refused.{refused}
 use Rattle.answers.specs.Answers.{numbered, using_law}
 use Rattle.answers.specs.Demand1.{CheckAnswers, UpdateAnswers, CommandAnswers, UpdateAreaAnswers, CommandAreaAnswers}
-use Rattle.answers.proofs.Numbers.{first-in, answers}
+use Rattle.answers.proofs.Numbers.{first-in, answers, none_numbered}
 
 module _ (s : Settings) where
   law-in : In (numbered (refusal s)) using_law
@@ -25,17 +20,13 @@ module _ (s : Settings) where
   law-in = first-in using_law (inl refl) (refusals s) tt
 
   pub check-answers : CheckAnswers s
-  check-answers r e = answers using_law tt (number r) (refusal s) e law-in (Unit {0}) (λ _. tt)
+  check-answers r e = answers using_law tt (number_of r) (refusal s) e law-in (Unit {0}) (λ _. tt)
 
   pub update-answers : (x : List ℤ) (y : Readings) → UpdateAnswers s x y
-  update-answers x y r e state mark =
-      answers using_law tt (number r.answer) (refusal s) e law-in ((r.state ≡ x) × (r.limited ≡ false))
-      (λ n. (state ∙ sym (updated-refused s x y n), mark ∙ sym (update-limited-refused s x y n)))
+  update-answers x y r e state mark = answers using_law tt (number_of r) (refusal s) e law-in (IsErr r) (none_numbered r (refusal s) e)
 
   pub commanded-answers : (x : List ℤ) → CommandAnswers s x
-  commanded-answers x r e values mark =
-      answers using_law tt (number r.answer) (refusal s) e law-in ((r.values ≡ replicate 4 (pos 0)) × (r.limited ≡ false))
-      (λ n. (values ∙ sym (commanded-refused s x n), mark ∙ sym (command-limited-refused s x n)))
+  commanded-answers x r e values mark = answers using_law tt (number_of r) (refusal s) e law-in (IsErr r) (none_numbered r (refusal s) e)
 
   pub update-area-answers : (present : List ℕ) (values state : List ℤ) (limited : ℕ) → UpdateAreaAnswers s present values state limited
   update-area-answers present values state limited r state' limited' e same mark =

@@ -1,19 +1,16 @@
 -- Laws of answers: an answer of a call's list is one of the documents', and what the first refusal of a place answers is in a list that has the
 -- numbers of its rows. Assumes nothing.
-use mathlib.Core.Path.{◌≡◌, refl, sym, ap, subst, ◌∙◌}
-use mathlib.Core.Logic.{◌⊎◌, inl, inr, ◌≢◌}
-use mathlib.Core.Bool.{Bool, true, false, not, ◌&&◌, ◌||◌}
-use mathlib.Core.List.{List, [], ◌∷◌}
-use Prim.Native.Nat.{ℕ, zero, suc, ◌-◌}
-use native.Mathlib.Omega.{arith}
-use lib.Dec.{T, eqb, leb, eqb→eq, leb→le}
-use borrow.Author.Tests.{eqb-true, ne_eqb}
+use Rattle.std.specs.Prelude.{◌≡◌, refl, ◌⊎◌, ◌≢◌, Bool, true, false, not, ◌&&◌, ◌||◌, List, [], ◌∷◌, ℕ, zero, suc, ◌-◌, T, eqb, leb, Result, Ok, Err, IsErr}
+use Rattle.std.proofs.Common.{sym, ap, subst, ◌∙◌, inl, inr, arith, eqb→eq, leb→le, eqb-true, ne_eqb, rules}
 use Rattle.lists.specs.Choice.{pick}
-use Rattle.lists.specs.Refusals.{Refusal, first_of}
+use Rattle.lists.specs.Refusals.{Refusal as Row, first_of}
 use Rattle.lists.proofs.Booleans.{and_left, and_right, or_cases, is_false}
 use Rattle.lists.proofs.Choice.{pick-ok, pick-holds, pick-false}
-use Rattle.scram.specs.Answers.{Answered, Done, Ignored, Refused}
+use Rattle.refusal.specs.declared.Refusal.{Refusal}
+use Rattle.refusal.specs.Numbers.{number_of as refusal_number}
+use Rattle.scram.specs.Answers.{Answered, Done, Ignored, Refused, answered_of}
 use Rattle.scram.specs.History.{In}
+use Rattle.records.specs.Reading.{is_done}
 use Rattle.winder.specs.Answers.{number_of}
 use Rattle.answers.specs.Answers.{Answers, Listed, numbered, numbered_step}
 
@@ -57,7 +54,7 @@ refused-in (Refused k ∷ l) number t = by (refused-in l number) (or_cases (eqb 
 -- ---- the first refusal of a place
 
 -- whether a list has the number of each row
-abbrev pub has_numbers : List Answered → List Refusal → Bool
+abbrev pub has_numbers : List Answered → List Row → Bool
 has_numbers possible [] = true
 has_numbers possible (r ∷ rs) = has_number possible r.number && has_numbers possible rs
 
@@ -65,7 +62,7 @@ module _ (possible : List Answered) (done : In Done possible) where
   pub numbered-in : (number : ℕ) → T (has_number possible number) → In (numbered number) possible
   numbered-in number t = pick-ok (λ a. In a possible) (eqb number 0) Done (Refused number) (λ _. done) (λ _. refused-in possible number t)
 
-  pub first-in : (rs : List Refusal) → T (has_numbers possible rs) → In (numbered (first_of rs)) possible
+  pub first-in : (rs : List Row) → T (has_numbers possible rs) → In (numbered (first_of rs)) possible
   unfolding first_of pick
   first-in [] t = done
   first-in (r ∷ rs) t =
@@ -79,6 +76,12 @@ refusal-in possible number t i =
     subst (λ a. In a possible) (pick-false (eqb number 0) Done (Refused number) (is_false (eqb number 0) t)) i
 
 -- ---- the claim about one call
+
+-- an answer other than "what was called for" is not done
+pub not_done : (a : Answered) → a ≢ Done → is_done a ≡ false
+not_done Done n = absurd (n refl)
+not_done Ignored n = refl
+not_done (Refused number) n = refl
 
 -- `answer` is what the call answers, and `given` is its definition
 pub answers-as : (possible : List Answered) → T (all_listed possible) → (answer given : Answered) → answer ≡ given → In given possible
@@ -104,6 +107,18 @@ pub answers : (possible : List Answered) → T (all_listed possible) → (number
     → (Kept : Type 0) → ((refused ≡ 0 → ⊥) → Kept) → Answers possible (numbered number) Kept
 answers possible t number refused e i Kept kept =
     answers-as possible t (numbered number) (numbered refused) (ap numbered e) i Kept (λ n. kept (not-zero refused n))
+
+-- ---- the claim about one call that gives nothing where it is refused
+
+-- what has the number of a refusal gives nothing
+pub none_numbered : {A : Type 0} (r : Result A Refusal) (number : ℕ) → refusal_number r ≡ number → (number ≡ 0 → ⊥) → IsErr r
+none_numbered (Ok x) number e z = absurd (z (sym e))
+none_numbered (Err refusal) number e z = search rules
+
+-- what answers otherwise than by "what was called for" gives nothing
+pub none_given : {A : Type 0} (r : Result A Refusal) (given : Answered) → answered_of r ≡ given → given ≢ Done → IsErr r
+none_given (Ok x) given e n = absurd (n (sym e))
+none_given (Err refusal) given e n = search rules
 
 -- ---- winder's numbers of answers
 

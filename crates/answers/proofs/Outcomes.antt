@@ -1,11 +1,8 @@
 -- What the protocol's steps answer, over any law: ignored or refused, a step holds what it held, sends no frame and issues no command.
 -- Assumes nothing.
-use mathlib.Core.Path.{◌≡◌, refl, subst, sym}
-use mathlib.Core.Bool.{Bool}
-use mathlib.Core.List.{List}
-use mathlib.Core.Option.{Option, none, some}
-use Prim.Native.Nat.{ℕ}
-use lib.Dec.{T}
+use Rattle.std.specs.Prelude.{◌≡◌, refl, Bool, List, ℕ, T}
+use Rattle.std.proofs.Common.{subst, sym}
+use Rattle.std.proofs.Math.Option.{Option, none, some}
 use Rattle.lists.proofs.Choice.{pick-ok}
 use Rattle.scram.specs.declared.Kind.{Kind}
 use Rattle.scram.specs.Answers.{Answered, Done, Ignored, Refused}

@@ -1,22 +1,19 @@
 -- What the shift page's calls answer and leave, in Rattle and for C programs. Assumes nothing.
-use mathlib.Core.Path.{◌≡◌, refl, sym, ap, ◌∙◌}
-use mathlib.Core.Logic.{inl}
-use mathlib.Core.List.{List, []}
-use Prim.Native.Nat.{ℕ}
-use lib.ListN.{length}
+use Rattle.std.specs.Prelude.{◌≡◌, refl, List, [], ℕ, length, IsErr}
+use Rattle.std.proofs.Common.{sym, ap, ◌∙◌, inl}
+use Rattle.refusal.specs.Numbers.{number_of}
 use Rattle.scram.specs.History.{In}
 use Rattle.octets.specs.Areas.{over}
 use Rattle.pages.specs.declared.entries.Entry.{Entry}
-use Rattle.pages.specs.Answers.{number}
 use Rattle.pages.specs.Writing.{write_refusal, written}
-use Rattle.pages.specs.Reading.{read_refusal, page_of}
-use Rattle.pages.proofs.ReadingLaws.{none_read}
+use Rattle.pages.specs.Reading.{read_refusal}
 use Rattle.pages.proofs.WritingLaws.{nothing_written}
 use Rattle.winder.proofs.Refused.{refused}
 use Rattle.answers.specs.Answers.{numbered, writing_page, reading_page}
-use Rattle.answers.specs.Kept.{PageKept, WriteAreas}
+use Rattle.answers.specs.Kept.{WriteAreas}
 use Rattle.answers.specs.Demand1.{WritePageAnswers, ReadPageAnswers, WritePageAreaAnswers}
-use Rattle.answers.proofs.Numbers.{first-in, answers, positive}
+use Rattle.answers.proofs.Numbers.{first-in, answers, positive, none_numbered}
+use Rattle.answers.proofs.Frames.{write-answers-of}
 
 module _ (p : ℕ) (entries : List Entry) (area : List ℕ) where
   writing-in : In (numbered (write_refusal p entries area)) writing_page
@@ -27,9 +24,7 @@ module _ (p : ℕ) (entries : List Entry) (area : List ℕ) where
   nothing z = nothing_written p entries area _ (positive _ z)
 
   pub write-page-answers : WritePageAnswers p entries area
-  write-page-answers r area' e count same =
-      answers writing_page tt (number r.answer) (write_refusal p entries area) e writing-in (PageKept r area area')
-      (λ z. record { lent-area = same ∙ ap (λ b. over b area) (nothing z); no_bytes = count ∙ ap length (nothing z) })
+  write-page-answers = write-answers-of writing_page tt (write_refusal p entries area) writing-in (written p entries area) area nothing
 
 pub write-page-area-answers : (p : ℕ) (entries : List Entry) (areas : WriteAreas) → WritePageAreaAnswers p entries areas
 write-page-area-answers p entries areas r areas' e area count =
@@ -46,5 +41,4 @@ module _ (p : ℕ) (bytes : List ℕ) where
 
   pub read-page-answers : ReadPageAnswers p bytes
   read-page-answers r e page =
-      answers reading_page tt (number r.answer) (read_refusal p bytes) e reading-in (r.page ≡ page_of [])
-      (λ z. page ∙ ap page_of (none_read p bytes _ (positive _ z)))
+      answers reading_page tt (number_of r) (read_refusal p bytes) e reading-in (IsErr r) (none_numbered r (read_refusal p bytes) e)

@@ -1,16 +1,10 @@
 -- What the calls of C programs on records answer and leave. Assumes nothing.
-use mathlib.Core.Path.{◌≡◌, refl, sym, ap, subst, ◌∙◌}
-use mathlib.Core.Logic.{inl, inr, ◌≢◌}
-use mathlib.Core.Bool.{true, false}
-use mathlib.Core.List.{List, [], ◌∷◌}
-use Prim.Native.Nat.{ℕ}
-use lib.Dec.{T}
-use lib.ListN.{length}
-use borrow.Author.Tests.{ne_eqb}
+use Rattle.std.specs.Prelude.{◌≡◌, refl, ◌≢◌, true, List, [], ◌∷◌, ℕ, T, length}
+use Rattle.std.proofs.Common.{sym, ap, subst, ◌∙◌, inl, inr, ne_eqb}
 use Rattle.lists.specs.Choice.{pick}
 use Rattle.lists.proofs.Choice.{pick-holds, pick-false}
 use Rattle.readings.specs.declared.Readings.{Readings}
-use Rattle.scram.specs.Answers.{Answered, Done, Ignored, Refused}
+use Rattle.scram.specs.Answers.{Answered, Done}
 use Rattle.scram.specs.History.{In}
 use Rattle.scram.specs.Events.{refusing}
 use Rattle.octets.specs.Areas.{over}
@@ -22,7 +16,7 @@ use Rattle.replica.specs.Frames.{sent_bytes, issued_bytes}
 use Rattle.replica.specs.Calls.{Outcomes, tick_outcome, give_up_outcome, arrive_outcome, fresh_of}
 use Rattle.records.specs.SettingsPart.{settings_in}
 use Rattle.records.specs.Recording.{record_refusal}
-use Rattle.records.specs.Reading.{is_done, is_record, replica_in, read_replica}
+use Rattle.records.specs.Reading.{is_record, replica_in, read_replica}
 use Rattle.records.proofs.IsRecord.{read_done, record-stands}
 use Rattle.records.proofs.Recorded.{record-refused}
 use Rattle.winder.specs.ReplicaAreas.{step_at, record_after, recording_refusal, returning_refusal}
@@ -31,7 +25,7 @@ use Rattle.answers.specs.Answers.{numbered, numbered_step}
 use Rattle.answers.specs.Answers.{making_record, ticking_record, giving_up_record, arriving_record, recording_record, returning_record}
 use Rattle.answers.specs.Kept.{RecordStepKept}
 use Rattle.answers.specs.Demand1.{MakeAreaAnswers, StepAreaAnswers, RecordAreaAnswers, ReturnAreaAnswers}
-use Rattle.answers.proofs.Numbers.{all_listed, has_number, refused-in, first-in, answers-as, answers, number-of, step-number}
+use Rattle.answers.proofs.Numbers.{all_listed, has_number, refused-in, first-in, answers-as, answers, not_done, number-of, step-number}
 use Rattle.answers.proofs.Outcomes.{Still, Step, refuses}
 use Rattle.answers.proofs.Replica.{tick-outcome, give-up-outcome, arrive-outcome}
 use Rattle.answers.proofs.Records.{recording-in}
@@ -46,11 +40,6 @@ make-area-answers s replica r replica' e same =
 -- ---- the three steps
 
 -- an answer other than "what was called for" leaves the record
-not_done : (a : Answered) → a ≢ Done → is_done a ≡ false
-not_done Done n = absurd (n refl)
-not_done Ignored n = refl
-not_done (Refused number) n = refl
-
 record-left : (replica : List ℕ) (o : Outcomes) → o.answer ≢ Done → record_after replica o ≡ replica
 unfolding record_after
 record-left replica o n = pick-false _ _ _ (not_done o.answer n)

@@ -1,16 +1,11 @@
 -- What the replica's four calls answer and leave. Assumes nothing.
-use mathlib.Core.Path.{refl, sym, ap, subst, ◌∙◌}
-use mathlib.Core.Logic.{inl, inr}
-use mathlib.Core.Bool.{not}
-use mathlib.Core.List.{List}
-use Prim.Native.Nat.{ℕ}
-use lib.Dec.{T, eqb}
-use lib.ListN.{length}
+use Rattle.std.specs.Prelude.{refl, not, List, ℕ, T, eqb, length, IsErr}
+use Rattle.std.proofs.Common.{ap, ◌∙◌, inl, inr}
 use Rattle.lists.specs.Choice.{pick}
 use Rattle.lists.specs.Refusals.{first_of}
 use Rattle.lists.proofs.Choice.{pick-ok}
 use Rattle.readings.specs.declared.Readings.{Readings}
-use Rattle.scram.specs.Answers.{Answered, Done, Ignored, answered}
+use Rattle.scram.specs.Answers.{Answered, Done, Ignored, answered, answered_of}
 use Rattle.scram.specs.History.{In}
 use Rattle.scram.specs.Events.{refusing}
 use Rattle.law.specs.Settings.{refusals}
@@ -21,11 +16,10 @@ use Rattle.replica.specs.Settings.{bad_group, settings_refusals, settings_refusa
 use Rattle.replica.specs.Held.{held_in, held_of}
 use Rattle.replica.specs.Frames.{sent_bytes, issued_bytes}
 use Rattle.replica.specs.Calls.{Outcomes, short_area, step_refusal, checked, tick_outcome, give_up_outcome, arrive_outcome, made_answer, fresh_of}
-use Rattle.replica.proofs.Calls.{made-refused}
 use Rattle.answers.specs.Answers.{numbered, making, ticking, giving_up, arriving}
 use Rattle.answers.specs.Kept.{StepKept, NoReplica}
 use Rattle.answers.specs.Demand1.{MakeAnswers, StepAnswers}
-use Rattle.answers.proofs.Numbers.{all_listed, has_number, numbered-in, first-in, refusal-in, answers-as, not-zero}
+use Rattle.answers.proofs.Numbers.{all_listed, has_number, numbered-in, first-in, refusal-in, answers-as, none_given}
 use Rattle.answers.proofs.Outcomes.{Still, Step, refuses, tick-answers, give-up-answers, arrival-answers}
 
 -- ---- making
@@ -40,8 +34,7 @@ making-in s = first-in making (inl refl) (settings_refusals s) tt
 
 pub make-answers : (s : Settings) → MakeAnswers s
 make-answers s r e replica =
-    answers-as making tt (answered r.answer) (made_answer s) e (making-in s) (NoReplica r.replica)
-    (λ n. subst NoReplica (sym (replica ∙ (made-refused s (not-zero (settings_refusal s) n)).1)) no-replica)
+    answers-as making tt (answered_of r) (made_answer s) e (making-in s) (IsErr r) (none_given r (made_answer s) e)
 
 -- ---- the outcomes of the three steps
 

@@ -6,7 +6,7 @@ use Rattle.pages.specs.Entries.{entries_of}
 use Rattle.winder.specs.FrameAreas.{frame_of}
 use Rattle.winder.specs.ReplicaAreas.{settings_of as replica_settings_of}
 use Rattle.answers.specs.Demand1.{DemandOne}
-use Rattle.answers.proofs.Replica.{make-answers, tick-call, give-up-call, arrive-call}
+use Rattle.answers.proofs.Replica.{no-replica, make-answers, tick-call, give-up-call, arrive-call}
 use Rattle.answers.proofs.Law.{check-answers, update-answers, commanded-answers, update-area-answers, command-area-answers}
 use Rattle.answers.proofs.Frames.{read-answers, read-area-answers, read-command-answers, read-command-area-answers}
 use Rattle.answers.proofs.Frames.{write-answers, write-area-answers, write-command-answers}
@@ -23,6 +23,7 @@ use Rattle.answers.proofs.TicketAreas.{commit-area-answers, ticketed-tick-area-a
 pub demand-1 : DemandOne
 demand-1 = record {
   make = make-answers;
+  blank = no-replica;
   tick = λ given y frame command. tick-call given frame command (converted_row y);
   give-up = give-up-call;
   arrive = λ given bytes frame command. arrive-call given frame command bytes;

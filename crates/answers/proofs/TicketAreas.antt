@@ -1,13 +1,7 @@
 -- What the calls of C programs on a replica with tickets answer and leave. Assumes nothing.
-use mathlib.Core.Path.{◌≡◌, refl, sym, ap, subst, ◌∙◌}
-use mathlib.Core.Logic.{inl, inr, ◌≢◌}
-use mathlib.Core.Bool.{Bool, true, false}
-use mathlib.Core.List.{List, [], ◌∷◌, ◌++◌}
-use Prim.Native.Nat.{ℕ}
-use lib.Dec.{T, ltb}
-use lib.ListN.{length, take}
-use lib.Seq.{take-append_seam}
-use borrow.Author.Tests.{ne_eqb}
+use Rattle.std.specs.Prelude.{◌≡◌, refl, ◌≢◌, Bool, true, false, List, [], ◌∷◌, ◌++◌, ℕ, T, ltb, length, take}
+use Rattle.std.proofs.Common.{sym, ap, subst, ◌∙◌, inl, inr, ne_eqb}
+use Rattle.std.proofs.Math.Seq.{take-append_seam}
 use Rattle.lists.specs.Choice.{pick}
 use Rattle.lists.proofs.Choice.{pick-holds, pick-false}
 use Rattle.readings.specs.declared.Readings.{Readings}
@@ -32,10 +26,10 @@ use Rattle.answers.specs.Answers.{numbered, numbered_step}
 use Rattle.answers.specs.Answers.{ticking_record, giving_up_record, arriving_record, adding_tickets, asking_tick_area, committing_area}
 use Rattle.answers.specs.Kept.{RecordStepKept, AskAreaKept}
 use Rattle.answers.specs.Demand1.{TicketsAreaAnswers, AskAreaAnswers, CommitAreaAnswers, TicketedAreaAnswers}
-use Rattle.answers.proofs.Numbers.{all_listed, has_number, refused-in, first-in, answers-as, answers, step-number}
+use Rattle.answers.proofs.Numbers.{all_listed, has_number, refused-in, first-in, answers-as, answers, not_done, step-number}
 use Rattle.answers.proofs.Outcomes.{Still, Step, refuses}
 use Rattle.answers.proofs.Replica.{tick-outcome, give-up-outcome, arrive-outcome}
-use Rattle.answers.proofs.Asks.{not_done, ask-outcome}
+use Rattle.answers.proofs.Asks.{ask-outcome}
 
 -- ---- tickets for a record
 

@@ -2,36 +2,29 @@
 -- replica and each lent area hold what they held." It is stated of every result that keeps the call's contract, in the contract's own words. No call
 -- has a `requires`, so each call with each input has such a result. A name with ' is an area after the call; areas that are lent to be read alone are
 -- not named, since nothing can write them. A call that refuses nothing and ignores nothing, as winder_convert_single, has no answer to speak of.
-use Rattle.std.specs.Prelude.{ℕ, ◌≡◌, Bool, false, List, [], length, replicate, ℤ, pos}
+use Rattle.std.specs.Prelude.{ℕ, ◌≡◌, Bool, List, length, ℤ, Result, IfOk, IsErr}
+use Rattle.refusal.specs.declared.Refusal.{Refusal}
+use Rattle.refusal.specs.Numbers.{number_of as refusal_number}
 use Rattle.readings.specs.declared.Readings.{Readings}
 use Rattle.transmitters.specs.declared.Reading.{Reading}
 use Rattle.transmitters.specs.Conversion.{converted_row}
 use Rattle.transmitters.specs.Numbers.{readings_of as readings_by_kind}
-use Rattle.scram.specs.declared.Answer.{Answer}
-use Rattle.scram.specs.Answers.{Answered, answered}
+use Rattle.scram.specs.Answers.{Answered, answered, answered_of}
 use Rattle.law.specs.declared.Settings as Law
-use Rattle.law.specs.declared.Answer.{Answer as LawAnswer}
 use Rattle.law.specs.declared.Updated.{Updated}
-use Rattle.law.specs.declared.Commanded.{Commanded}
-use Rattle.law.specs.Answer.{number as law_number}
+use Rattle.law.specs.declared.Marked.{Marked}
 use Rattle.law.specs.Settings.{refusal, settings_of}
 use Rattle.law.specs.Law.{updated, update_limited, commanded, command_limited}
 use Rattle.octets.specs.Areas.{over}
 use Rattle.estimate.specs.Marks.{bit}
 use Rattle.frame.specs.declared.Frame.{Frame}
-use Rattle.frame.specs.declared.Parsed.{Parsed}
-use Rattle.frame.specs.declared.ParsedCommand.{ParsedCommand}
-use Rattle.frame.specs.declared.Written.{Written}
-use Rattle.frame.specs.Answers.{number}
-use Rattle.frame.specs.Fields.{blank}
+use Rattle.frame.specs.declared.CommandFields.{CommandFields}
 use Rattle.frame.specs.Reading.{read_refusal, read_frame}
 use Rattle.frame.specs.Writing.{write_refusal, written}
 use Rattle.frame.specs.Command.{command_refusal, command_written}
-use Rattle.frame.specs.CommandReading.{read_command_refusal, read_command, no_command}
+use Rattle.frame.specs.CommandReading.{read_command_refusal, read_command}
 use Rattle.pages.specs.declared.entries.Entry.{Entry}
-use Rattle.pages.specs.declared.reading.PageRead.{PageRead}
-use Rattle.pages.specs.declared.writing.Written.{Written as PageWritten}
-use Rattle.pages.specs.Answers.{number as page_number}
+use Rattle.pages.specs.declared.lines.Page.{Page}
 use Rattle.pages.specs.Entries.{entries_of}
 use Rattle.pages.specs.Writing.{write_refusal as page_refusal, written as page_written}
 use Rattle.pages.specs.Reading.{read_refusal as read_page_refusal, read_entries, page_of}
@@ -42,13 +35,11 @@ use Rattle.winder.specs.FrameAreas.{frame_of, kind_and_sender_of, counters_of, m
 use Rattle.winder.specs.Answers.{number_of}
 use Rattle.winder.specs.ReplicaAreas.{settings_of as replica_settings_of, step_at, Steps, recording_refusal, returning_refusal}
 use Rattle.winder.specs.ReplicaAreas.{recording as recording_at, returning as returning_at}
+use Rattle.replica.specs.Settings.{blank_settings}
 use Rattle.replica.specs.declared.Settings.{Settings}
 use Rattle.replica.specs.declared.Replica.{Replica}
-use Rattle.replica.specs.declared.Made.{Made}
 use Rattle.replica.specs.declared.Stepped.{Stepped}
 use Rattle.replica.specs.Calls.{Outcomes, Gives, tick_outcome, give_up_outcome, arrive_outcome, fresh_of, made_answer, made}
-use Rattle.records.specs.declared.reading.Parsed.{Parsed as RecordParsed}
-use Rattle.records.specs.declared.returning.Returned.{Returned}
 use Rattle.records.specs.Recording.{record_answer, recorded}
 use Rattle.records.specs.Reading.{read_answer, read_replica}
 use Rattle.records.specs.Returning.{stay_answer, stayed, return_answer, returned}
@@ -56,7 +47,6 @@ use Rattle.ticketed.specs.Calls.{tickets_refusal, with_tickets, ask_at, committi
 use Rattle.winder.specs.TicketAreas.{Asks as AreaAsks, Steps as AreaSteps}
 use Rattle.asks.specs.declared.Ticketed.{Ticketed}
 use Rattle.asks.specs.declared.Asked.{Asked}
-use Rattle.asks.specs.declared.Committed.{Committed}
 use Rattle.asks.specs.declared.Stepped.{Stepped as TicketedStep}
 use Rattle.asks.specs.Asking.{ask_outcome, Asks, Steps as AskSteps, commit_answer, committed}
 use Rattle.answers.specs.Answers.{Answers, numbered, numbered_step}
@@ -64,15 +54,15 @@ use Rattle.answers.specs.Answers.{making, ticking, giving_up, arriving, using_la
 use Rattle.answers.specs.Answers.{recording, reading_record, staying_up, returning}
 use Rattle.answers.specs.Answers.{asking_tick, asking_give_up, asking_arrive, committing, adding_tickets, asking_tick_area, committing_area}
 use Rattle.answers.specs.Answers.{making_record, ticking_record, giving_up_record, arriving_record, recording_record, returning_record}
-use Rattle.answers.specs.Kept.{StepKept, NoReplica, RecordStepKept, AskKept, TicketedKept, AskAreaKept, WriteKept, PageKept, FrameAreas, CommandAreas, WriteAreas}
+use Rattle.answers.specs.Kept.{StepKept, NoReplica, RecordStepKept, AskKept, TicketedKept, AskAreaKept, WriteKept, FrameAreas, CommandAreas, WriteAreas}
 
 -- ---- the replica's calls
 
--- making
+-- making: "Making settings refuses without a replica"
 abbrev pub MakeAnswers : Settings → Type 0
 MakeAnswers s =
-    (r : Made) → answered r.answer ≡ made_answer s → r.replica ≡ made s
-    → Answers making (answered r.answer) (NoReplica r.replica)
+    (r : Result Replica Refusal) → answered_of r ≡ made_answer s → IfOk r (λ replica. replica ≡ made s)
+    → Answers making (answered_of r) (IsErr r)
 
 -- a step with the outcome o: frame and command are the areas lent
 abbrev pub StepAnswers : List Answered → Replica → Outcomes → (frame command : List ℕ) → Type 0
@@ -84,80 +74,80 @@ StepAnswers possible given o frame command =
 
 -- looking at settings: nothing is lent, and nothing but the answer comes back
 abbrev pub CheckAnswers : Law.Settings → Type 0
-CheckAnswers s = (r : LawAnswer) → law_number r ≡ refusal s → Answers using_law (numbered (law_number r)) (Unit {0})
+CheckAnswers s = (r : Result (Unit {0}) Refusal) → refusal_number r ≡ refusal s → Answers using_law (numbered (refusal_number r)) (Unit {0})
 
--- an update: refused, it gives the state handed in, and no mark
+-- an update: refused, there is neither state nor mark
 abbrev pub UpdateAnswers : Law.Settings → List ℤ → Readings → Type 0
 UpdateAnswers s x y =
-    (r : Updated) → law_number r.answer ≡ refusal s → r.state ≡ updated s x y → r.limited ≡ update_limited s x y
-    → Answers using_law (numbered (law_number r.answer)) ((r.state ≡ x) × (r.limited ≡ false))
+    (r : Result Updated Refusal) → refusal_number r ≡ refusal s → IfOk r (λ u. u.state ≡ updated s x y)
+    → IfOk r (λ u. u.limited ≡ update_limited s x y)
+    → Answers using_law (numbered (refusal_number r)) (IsErr r)
 
--- the commands of a state: refused, each place holds 0, and there is no mark
+-- the commands of a state: refused, there are neither commands nor a mark
 abbrev pub CommandAnswers : Law.Settings → List ℤ → Type 0
 CommandAnswers s x =
-    (r : Commanded) → law_number r.answer ≡ refusal s → r.values ≡ commanded s x → r.limited ≡ command_limited s x
-    → Answers using_law (numbered (law_number r.answer)) ((r.values ≡ replicate 4 (pos 0)) × (r.limited ≡ false))
+    (r : Result Marked Refusal) → refusal_number r ≡ refusal s → IfOk r (λ marked. marked.commands ≡ commanded s x)
+    → IfOk r (λ marked. marked.limited ≡ command_limited s x)
+    → Answers using_law (numbered (refusal_number r)) (IsErr r)
 
 -- ---- the frames' calls
 
--- reading: refused, the frame is blank
+-- reading: refused, there is no frame
 abbrev pub ReadAnswers : (n m : ℕ) → List ℕ → Type 0
 ReadAnswers n m bytes =
-    (r : Parsed) → number r.answer ≡ read_refusal n m bytes → r.frame ≡ read_frame n m bytes
-    → Answers reading (numbered (number r.answer)) (r.frame ≡ blank)
+    (r : Result Frame Refusal) → refusal_number r ≡ read_refusal n m bytes → IfOk r (λ frame. frame ≡ read_frame n m bytes)
+    → Answers reading (numbered (refusal_number r)) (IsErr r)
 
--- reading a command: refused, it is blank
+-- reading a command: refused, there is none
 abbrev pub ReadCommandAnswers : (p : ℕ) → List ℕ → Type 0
 ReadCommandAnswers p bytes =
-    (r : ParsedCommand) → number r.answer ≡ read_command_refusal p bytes → r.command ≡ read_command p bytes
-    → Answers reading (numbered (number r.answer)) (r.command ≡ no_command)
+    (r : Result CommandFields Refusal) → refusal_number r ≡ read_command_refusal p bytes → IfOk r (λ command. command ≡ read_command p bytes)
+    → Answers reading (numbered (refusal_number r)) (IsErr r)
 
--- writing a frame, or a command: `refused` is its number, or 0, and `bytes` is what it writes
+-- writing a frame, a command or a shift page: `refused` is its number, or 0, and `bytes` is what it writes
 abbrev pub WriteAnswers : List Answered → (refused : ℕ) (bytes area : List ℕ) → Type 0
 WriteAnswers possible refused bytes area =
-    (r : Written) (area' : List ℕ) → number r.answer ≡ refused → r.length ≡ length bytes → area' ≡ over bytes area
-    → Answers possible (numbered (number r.answer)) (WriteKept r area area')
+    (r : Result ℕ Refusal) (area' : List ℕ) → refusal_number r ≡ refused → IfOk r (λ size. size ≡ length bytes) → area' ≡ over bytes area
+    → Answers possible (numbered (refusal_number r)) (WriteKept r area area')
 
 -- ---- the shift page's calls
 
 -- writing: `entries` are those in the caller's words
 abbrev pub WritePageAnswers : (p : ℕ) → List Entry → (area : List ℕ) → Type 0
-WritePageAnswers p entries area =
-    (r : PageWritten) (area' : List ℕ) → page_number r.answer ≡ page_refusal p entries area → r.length ≡ length (page_written p entries area)
-    → area' ≡ over (page_written p entries area) area
-    → Answers writing_page (numbered (page_number r.answer)) (PageKept r area area')
+WritePageAnswers p entries area = WriteAnswers writing_page (page_refusal p entries area) (page_written p entries area) area
 
--- reading it back: refused, the page has no lines
+-- reading it back: refused, there is no page
 abbrev pub ReadPageAnswers : (p : ℕ) → List ℕ → Type 0
 ReadPageAnswers p bytes =
-    (r : PageRead) → page_number r.answer ≡ read_page_refusal p bytes → r.page ≡ page_of (read_entries p bytes)
-    → Answers reading_page (numbered (page_number r.answer)) (r.page ≡ page_of [])
+    (r : Result Page Refusal) → refusal_number r ≡ read_page_refusal p bytes → IfOk r (λ page. page ≡ page_of (read_entries p bytes))
+    → Answers reading_page (numbered (refusal_number r)) (IsErr r)
 
 -- ---- the record's calls
 
 -- recording the replica `given`
 abbrev pub RecordAnswers : Replica → (area : List ℕ) → Type 0
 RecordAnswers given area =
-    (r : Answer) (area' : List ℕ) → answered r ≡ record_answer given.settings (length area) → area' ≡ over (recorded given (length area)) area
-    → Answers recording (answered r) (area' ≡ area)
+    (r : Result (Unit {0}) Refusal) (area' : List ℕ) → answered_of r ≡ record_answer given.settings (length area)
+    → area' ≡ over (recorded given (length area)) area
+    → Answers recording (answered_of r) (area' ≡ area)
 
--- reading a record
+-- reading a record: refused, there is no replica
 abbrev pub ReadRecordAnswers : List ℕ → Type 0
 ReadRecordAnswers bytes =
-    (r : RecordParsed) → answered r.answer ≡ read_answer bytes → r.replica ≡ read_replica bytes
-    → Answers reading_record (answered r.answer) (NoReplica r.replica)
+    (r : Result Replica Refusal) → answered_of r ≡ read_answer bytes → IfOk r (λ replica. replica ≡ read_replica bytes)
+    → Answers reading_record (answered_of r) (IsErr r)
 
--- staying up: refused, it gives the replica handed in
+-- staying up: refused, there is no replica but the one handed in, which the caller has still
 abbrev pub StayAnswers : (missed : ℕ) → Replica → Type 0
 StayAnswers missed given =
-    (r : Returned) → answered r.answer ≡ stay_answer missed given → r.replica ≡ stayed missed given
-    → Answers staying_up (answered r.answer) (r.replica ≡ given)
+    (r : Result Replica Refusal) → answered_of r ≡ stay_answer missed given → IfOk r (λ up. up ≡ stayed missed given)
+    → Answers staying_up (answered_of r) (IsErr r)
 
--- returning from a record
+-- returning from a record: refused, there is no replica
 abbrev pub ReturnAnswers : (missed : ℕ) → List ℕ → Type 0
 ReturnAnswers missed bytes =
-    (r : Returned) → answered r.answer ≡ return_answer missed bytes → r.replica ≡ returned missed bytes
-    → Answers returning (answered r.answer) (NoReplica r.replica)
+    (r : Result Replica Refusal) → answered_of r ≡ return_answer missed bytes → IfOk r (λ up. up ≡ returned missed bytes)
+    → Answers returning (answered_of r) (IsErr r)
 
 -- ---- the calls of a replica with tickets
 
@@ -167,11 +157,11 @@ AskAnswers possible given o area frame command =
     (r : Asked) (area' frame' command' : List ℕ) → Asks given (ask_outcome given (length area) o) r area area' frame frame' command command'
     → Answers possible (answered r.answer) (AskKept given r area area' frame frame' command command')
 
--- a commit: refused, it leaves all as it was
+-- a commit: refused, there is no replica with tickets but the one handed in, which the caller has still
 abbrev pub CommitAnswers : Ticketed → (ticket : ℕ) → Type 0
 CommitAnswers given ticket =
-    (r : Committed) → answered r.answer ≡ commit_answer given ticket → r.ticketed ≡ committed given ticket
-    → Answers committing (answered r.answer) (r.ticketed ≡ given)
+    (r : Result Ticketed Refusal) → answered_of r ≡ commit_answer given ticket → IfOk r (λ ticketed. ticketed ≡ committed given ticket)
+    → Answers committing (answered_of r) (IsErr r)
 
 -- a step that was not asked, with the outcome o
 abbrev pub TicketedAnswers : List Answered → Ticketed → Outcomes → (frame command : List ℕ) → Type 0
@@ -288,6 +278,8 @@ TicketedAreaAnswers possible replica o frame command =
 pub record DemandOne : Type 0 where
   -- crate replica
   pub make : (s : Settings) → MakeAnswers s
+  -- the replica of no settings, which `blank` gives without refusing anything, is none to step
+  pub blank : NoReplica (fresh_of blank_settings)
   pub tick : (given : Replica) (y : List Reading) (frame command : List ℕ)
       → StepAnswers ticking given (tick_outcome given (converted_row y) (length frame) (length command)) frame command
   pub give-up : (given : Replica) (frame command : List ℕ)

@@ -1,9 +1,8 @@
 -- What holds what it held after a call that was ignored or refused, and what such a call gives.
-use Rattle.std.specs.Prelude.{ℕ, ◌≡◌, List, [], ◌∷◌, ℤ}
+use Rattle.std.specs.Prelude.{ℕ, ◌≡◌, List, [], ◌∷◌, ℤ, Result, IsErr}
+use Rattle.refusal.specs.declared.Refusal.{Refusal}
 use Rattle.readings.specs.declared.Readings.{Readings}
 use Rattle.scram.specs.Answers.{Refused}
-use Rattle.frame.specs.declared.Written.{Written}
-use Rattle.pages.specs.declared.writing.Written.{Written as PageWritten}
 use Rattle.replica.specs.declared.Replica.{Replica}
 use Rattle.replica.specs.declared.Stepped.{Stepped}
 use Rattle.replica.specs.Calls.{tick_outcome, give_up_outcome, arrive_outcome}
@@ -22,8 +21,7 @@ pub record StepKept (given : Replica) (r : Stepped) (frame frame' command comman
   pub no-frame : r.frame ≡ 0
   pub no-command : r.command ≡ 0
 
--- "Making settings refuses without a replica", and so do reading a record and returning from one: what stands in the place of a replica is refused by
--- 1 in every step, whatever the event and the areas
+-- what stands in the place of a replica, and is none: it is refused by 1 in every step, whatever the event and the areas
 pub record NoReplica (r : Replica) : Type 0 where
   pub tick : (y : Readings) (frame command : ℕ) → (tick_outcome r y frame command).answer ≡ Refused 1
   pub give-up : (frame command : ℕ) → (give_up_outcome r frame command).answer ≡ Refused 1
@@ -67,15 +65,10 @@ pub record AskAreaKept (b b' lengths area area' frame frame' command command' : 
 
 -- ---- calls that write to one area
 
--- a write of a frame or a command left its area as it was, and gives the length 0
-pub record WriteKept (r : Written) (area area' : List ℕ) : Type 0 where
+-- a write of a frame, a command or a shift page left its area as it was, and gives no length
+pub record WriteKept (r : Result ℕ Refusal) (area area' : List ℕ) : Type 0 where
   pub lent-area : area' ≡ area
-  pub no_bytes : r.length ≡ 0
-
--- a write of a shift page, in the same way
-pub record PageKept (r : PageWritten) (area area' : List ℕ) : Type 0 where
-  pub lent-area : area' ≡ area
-  pub no_bytes : r.length ≡ 0
+  pub no_bytes : IsErr r
 
 -- ---- a C caller's areas
 

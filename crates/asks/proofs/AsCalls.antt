@@ -6,7 +6,9 @@ use mathlib.Core.Option.{some}
 use lib.Dec.{eqb}
 use Rattle.lists.specs.Choice.{pick}
 use Rattle.lists.proofs.Choice.{pick-false}
-use Rattle.scram.specs.Answers.{Done, Ignored, Refused}
+use Rattle.std.specs.Prelude.{Result, Ok, Err, IfOk}
+use Rattle.refusal.specs.declared.Refusal.{Refusal}
+use Rattle.scram.specs.Answers.{Done, Ignored, Refused, answered_of}
 use Rattle.scram.specs.Events.{refusing, ignoring}
 use Rattle.replica.specs.declared.Held.{Held}
 use Rattle.replica.specs.declared.Replica.{Replica}
@@ -19,8 +21,9 @@ use Rattle.tickets.specs.Tickets.{is_spent, after_ask, after_step, commits, afte
 use Rattle.tickets.proofs.Laws.{ask-spent}
 use Rattle.tickets.specs.Calls.{Asked, Committed, Box, after, given}
 use Rattle.asks.specs.declared.Ticketed.{Ticketed}
-use Rattle.asks.specs.Asking.{tickets_of, answer_before, outcome_after, ask_outcome, committed}
-use Rattle.asks.specs.AsCalls.{looked, box_of, AskIsCall, StepIsCall, CommitIsCall, ReturnIsCall}
+use Rattle.asks.specs.Asking.{tickets_of, answer_before, outcome_after, ask_outcome, commit_answer, committed}
+use Rattle.asks.proofs.CommitLaws.{commit-refuses}
+use Rattle.asks.specs.AsCalls.{looked, box_of, left_by, AskIsCall, StepIsCall, CommitIsCall, ReturnIsCall}
 
 -- a box, of its two parts
 abbrev box_with : Held → Of.Tickets Held → Box Held
@@ -88,10 +91,18 @@ unfolding pick
 moved x true = refl
 moved x false = refl
 
+-- where a commit is refused, its definition leaves what was handed in too
+left-as : (x : Ticketed) (ticket : ℕ) (r : Result Ticketed Refusal) → answered_of r ≡ commit_answer x ticket
+    → IfOk r (λ (y : Ticketed). y ≡ committed x ticket) → left_by x r ≡ committed x ticket
+left-as x ticket (Ok y) e a = a
+left-as x ticket (Err refusal) e a =
+    (commit-refuses x ticket (sym (taken (commits (tickets_of x.tickets) ticket)) ∙ ap is_done (sym e))).1
+
 pub commit-is-call : CommitIsCall
 unfolding after given committed
 commit-is-call x ticket r e a = (
-  ap (box_of x.replica.settings) a ∙ ap (λ h. box_with h (after_commit (tickets_of x.tickets) ticket)) (moved x (commits (tickets_of x.tickets) ticket)),
+  ap (box_of x.replica.settings) (left-as x ticket r e a)
+      ∙ ap (λ h. box_with h (after_commit (tickets_of x.tickets) ticket)) (moved x (commits (tickets_of x.tickets) ticket)),
   ap (λ y. Committed (is_done y)) e ∙ ap Committed (taken (commits (tickets_of x.tickets) ticket)),
 )
 

@@ -1,10 +1,12 @@
 -- The calls of a replica with tickets are calls at one box of crate tickets: what crate tickets says of an ask that is never committed (`NeverCommitted`)
 -- is said of them. No call changes the settings, so the replica is what is held.
-use Rattle.std.specs.Prelude.{ℕ, ◌≡◌, List, length, eqb}
+use Rattle.std.specs.Prelude.{ℕ, ◌≡◌, List, length, eqb, Ok, Err, IfOk}
+use Rattle.std.specs.Prelude as Code
 use Rattle.std.proofs.Math.Option.{Option, none, some}
 use Rattle.lists.specs.Choice.{pick}
 use Rattle.transmitters.specs.declared.Reading.{Reading}
-use Rattle.scram.specs.Answers.{answered}
+use Rattle.refusal.specs.declared.Refusal.{Refusal}
+use Rattle.scram.specs.Answers.{answered_of}
 use Rattle.scram.specs.Held.{Input}
 use Rattle.scram.specs.Events.{refusing, ignoring}
 use Rattle.replica.specs.declared.Settings.{Settings}
@@ -18,7 +20,6 @@ use Rattle.tickets.specs.Calls.{Result, Step, Ask, Commit, Return, Asked, Steppe
 use Rattle.asks.specs.declared.Ticketed.{Ticketed}
 use Rattle.asks.specs.declared.Asked as Declared
 use Rattle.asks.specs.declared.Stepped as DeclaredStep
-use Rattle.asks.specs.declared.Committed as DeclaredCommit
 use Rattle.asks.specs.Asking.{tickets_of, ticketless, ask_outcome, Asks, Steps, commit_answer, committed}
 use Rattle.asks.specs.AskThenCommit.{outcome_of}
 
@@ -71,12 +72,18 @@ StepIsCall = (x : Ticketed) (i : Input (List Reading) (List ℕ)) (r : DeclaredS
     → (box_of s r.ticketed ≡ after (result s) (ignored s) (box_of s x) (Step e))
     × (Stepped o ≡ given (result s) (ignored s) (box_of s x) (Step e))
 
+-- what a commit leaves: where it is refused, what was handed in
+abbrev pub left_by : Ticketed → Code.Result Ticketed Refusal → Ticketed
+left_by x (Ok ticketed) = ticketed
+left_by x (Err refusal) = x
+
 -- a commit
 abbrev pub CommitIsCall : Type 0
-CommitIsCall = (x : Ticketed) (ticket : ℕ) (r : DeclaredCommit.Committed) → answered r.answer ≡ commit_answer x ticket → r.ticketed ≡ committed x ticket
+CommitIsCall = (x : Ticketed) (ticket : ℕ) (r : Code.Result Ticketed Refusal) → answered_of r ≡ commit_answer x ticket
+    → IfOk r (λ (y : Ticketed). y ≡ committed x ticket)
     → let s = x.replica.settings in
-    (box_of s r.ticketed ≡ after (result s) (ignored s) (box_of s x) (Commit ticket))
-    × (Committed (is_done (answered r.answer)) ≡ given (result s) (ignored s) (box_of s x) (Commit ticket))
+    (box_of s (left_by x r) ≡ after (result s) (ignored s) (box_of s x) (Commit ticket))
+    × (Committed (is_done (answered_of r)) ≡ given (result s) (ignored s) (box_of s x) (Commit ticket))
 
 -- a box that was made or returned as a replica of these settings
 abbrev pub ReturnIsCall : Type 0

@@ -10,7 +10,7 @@ ghost use Rattle.asks.specs.Asking.{answer_before, ask_giving, step_giving};
 use crate::ticket::{after_ask, after_step, is_spent, ticket_for};
 use crate::{Asked, Stepped, Ticketed};
 use records::reading::is_done;
-use records::recording::{refusal, write};
+use records::recording::{check_recording, write};
 use replica::{Held, Replica};
 use scram::Answer;
 
@@ -18,30 +18,27 @@ use scram::Answer;
 pub(crate) fn answer_before(ticketed: Ticketed, area: usize) -> Answer
     ensures { answered result ≡ answer_before ticketed area }
 {
-    let tickets = ticketed.tickets;
-    if is_spent(tickets) {
+    if is_spent(ticketed.tickets) {
         return Answer::Ignored;
     }
-    let settings = ticketed.replica.settings;
-    let number = refusal(settings, area);
-    if number != 0 {
-        return Answer::Refused(number);
+    match check_recording(&ticketed.replica.settings, area) {
+        Ok(()) => Answer::Done,
+        Err(refusal) => Answer::Refused(refusal),
     }
-    Answer::Done
 }
 
 // An ask with this answer, whose step leaves this and writes so much.
 fn ask_giving(ticketed: Ticketed, answer: Answer, held: Held, frame: usize, command: usize) -> Asked
     ensures { result ≡ ask_giving ticketed answer held frame command }
 {
-    let before = ticketed.tickets;
-    let replica = ticketed.replica;
-    let tickets = after_ask(before, is_done(answer), held);
-    let after = Ticketed { replica, tickets };
+    let tickets = after_ask(ticketed.tickets, is_done(answer), held);
     Asked {
         answer,
-        ticket: ticket_for(before),
-        ticketed: after,
+        ticket: ticket_for(ticketed.tickets),
+        ticketed: Ticketed {
+            tickets,
+            ..ticketed
+        },
         frame,
         command,
     }
@@ -51,8 +48,7 @@ fn ask_giving(ticketed: Ticketed, answer: Answer, held: Held, frame: usize, comm
 pub(crate) fn turn_down(ticketed: Ticketed, answer: Answer) -> Asked
     ensures { result ≡ ask_giving ticketed answer ticketed.replica.held 0 0 }
 {
-    let held = ticketed.replica.held;
-    ask_giving(ticketed, answer, held, 0, 0)
+    ask_giving(ticketed, answer, ticketed.replica.held, 0, 0)
 }
 
 // The record of a replica, where the step that left it was done.
@@ -60,7 +56,7 @@ fn write_done(answer: Answer, replica: Replica, area: &mut [u8])
     ensures { area.new ≡ over (pick (is_done (answered answer)) (recorded replica (length area.old)) []) area.old }
 {
     if is_done(answer) {
-        write(replica, area);
+        let _ = write(replica, area);
     }
 }
 
@@ -69,25 +65,27 @@ pub(crate) fn offer(ticketed: Ticketed, stepped: replica::Stepped, area: &mut [u
     ensures asked { result ≡ ask_giving ticketed stepped.answer stepped.replica.held stepped.frame stepped.command }
     ensures area { area.new ≡ over (pick (is_done (answered stepped.answer)) (recorded stepped.replica (length area.old)) []) area.old }
 {
-    let answer = stepped.answer;
-    let next = stepped.replica;
-    write_done(answer, next, area);
-    let held = next.held;
-    ask_giving(ticketed, answer, held, stepped.frame, stepped.command)
+    write_done(stepped.answer, stepped.replica, area);
+    ask_giving(
+        ticketed,
+        stepped.answer,
+        stepped.replica.held,
+        stepped.frame,
+        stepped.command,
+    )
 }
 
 // A step that was not asked gave this: where it was done, the ticket is void.
 pub(crate) fn step_giving(ticketed: Ticketed, stepped: replica::Stepped) -> Stepped
     ensures { result ≡ step_giving ticketed stepped }
 {
-    let answer = stepped.answer;
-    let replica = stepped.replica;
-    let before = ticketed.tickets;
-    let tickets = after_step(before, is_done(answer));
-    let after = Ticketed { replica, tickets };
+    let tickets = after_step(ticketed.tickets, is_done(stepped.answer));
     Stepped {
-        answer,
-        ticketed: after,
+        answer: stepped.answer,
+        ticketed: Ticketed {
+            replica: stepped.replica,
+            tickets,
+        },
         frame: stepped.frame,
         command: stepped.command,
     }

@@ -4,20 +4,22 @@
 pub mod asking;
 pub mod ticket;
 
-ghost use Rattle.std.specs.Prelude.{◌≡◌, length};
+ghost use Rattle.std.specs.Prelude.{◌≡◌, length, IfOk};
 ghost use Rattle.transmitters.specs.Conversion.{converted_row};
 ghost use Rattle.replica.specs.Calls.{tick_outcome, give_up_outcome, arrive_outcome};
 ghost use Rattle.asks.specs.Asking.{ticketless, ask_outcome, Asks, Steps, commit_answer, committed};
-ghost use Rattle.scram.specs.Answers.{answered};
+ghost use Rattle.scram.specs.Answers.{answered_of};
 
 use asking::{answer_before, offer, step_giving, turn_down};
 use records::reading::is_done;
+use refusal::Refusal;
 use replica::{Held, Replica};
 use scram::Answer;
 use ticket::{after_step, commits, no_tickets};
 use transmitters::Reading;
 
-// The latest ticket given, 0 before the first; whether it can be committed; and what the step leaves that the latest ask with the answer ok was for.
+// The latest ticket given, 0 before the first; whether it can be committed; and what the step leaves that the latest ask with the answer ok was for. No
+// Option: a ticket that is void is the latest all the same, and what its step leaves is kept (`tickets_of`).
 #[derive(Clone, Copy)]
 pub struct Tickets {
     pub latest: u64,
@@ -33,7 +35,7 @@ pub struct Ticketed {
 }
 
 // What an ask gives: its answer, its ticket, the replica with its tickets, and the lengths written to the frame area and to the command area, 0 where
-// nothing was.
+// nothing was. No Result: ticket and replica come back whatever the answer is.
 #[derive(Clone, Copy)]
 pub struct Asked {
     pub answer: Answer,
@@ -43,7 +45,7 @@ pub struct Asked {
     pub command: usize,
 }
 
-// What a step gives that was not asked.
+// What a step gives that was not asked. No Result: the replica goes in by value and comes back whatever the answer is.
 #[derive(Clone, Copy)]
 pub struct Stepped {
     pub answer: Answer,
@@ -52,24 +54,19 @@ pub struct Stepped {
     pub command: usize,
 }
 
-// What a commit gives.
-#[derive(Clone, Copy)]
-pub struct Committed {
-    pub answer: Answer,
-    pub ticketed: Ticketed,
-}
-
 // A replica that was made or returned: no ticket was given.
 pub fn with_tickets(replica: Replica) -> Ticketed
     ensures { result ≡ ticketless replica }
 {
-    let held = replica.held;
-    let tickets = no_tickets(held);
-    Ticketed { replica, tickets }
+    Ticketed {
+        replica,
+        tickets: no_tickets(replica.held),
+    }
 }
 
 impl Ticketed {
-    // Asks a tick with readings.
+    // Asks a tick with readings. The three asks, and the three steps below, are not one function that takes a closure: its contract would have to speak of
+    // whatever the closure gives and of what it leaves in both lent areas, which is no plainer than the call that each differs in.
     pub fn ask_tick(
         self,
         readings: [Reading; 4],
@@ -84,8 +81,7 @@ impl Ticketed {
         if !is_done(answer) {
             return turn_down(self, answer);
         }
-        let replica = self.replica;
-        let stepped = replica.tick(readings, frame, command);
+        let stepped = self.replica.tick(readings, frame, command);
         offer(self, stepped, area)
     }
 
@@ -98,8 +94,7 @@ impl Ticketed {
         if !is_done(answer) {
             return turn_down(self, answer);
         }
-        let replica = self.replica;
-        let stepped = replica.give_up(frame, command);
+        let stepped = self.replica.give_up(frame, command);
         offer(self, stepped, area)
     }
 
@@ -118,32 +113,24 @@ impl Ticketed {
         if !is_done(answer) {
             return turn_down(self, answer);
         }
-        let replica = self.replica;
-        let stepped = replica.arrive(bytes, frame, command);
+        let stepped = self.replica.arrive(bytes, frame, command);
         offer(self, stepped, area)
     }
 
     // Commits a ticket: the step that its ask was for is made, and nothing is written.
-    pub fn commit(self, ticket: u64) -> Committed
-        ensures answer { answered result.answer ≡ commit_answer self ticket }
-        ensures ticketed { result.ticketed ≡ committed self ticket }
+    pub fn commit(self, ticket: u64) -> Result<Ticketed, Refusal>
+        ensures answer { answered_of result ≡ commit_answer self ticket }
+        ensures ticketed { IfOk result (λ ticketed. ticketed ≡ committed self ticket) }
     {
-        let before = self.tickets;
-        if !commits(before, ticket) {
-            return Committed {
-                answer: Answer::Refused(17),
-                ticketed: self,
-            };
+        if !commits(self.tickets, ticket) {
+            return Err(Refusal::Ticket);
         }
-        let settings = self.replica.settings;
-        let held = before.held;
-        let replica = Replica { settings, held };
-        let tickets = after_step(before, true);
-        let ticketed = Ticketed { replica, tickets };
-        Committed {
-            answer: Answer::Done,
-            ticketed,
-        }
+        let tickets = after_step(self.tickets, true);
+        let replica = Replica {
+            held: self.tickets.held,
+            ..self.replica
+        };
+        Ok(Ticketed { replica, tickets })
     }
 
     // A tick that was not asked.
@@ -151,8 +138,7 @@ impl Ticketed {
         ensures { Steps self (tick_outcome self.replica (converted_row readings) (length frame.old) (length command.old))
             result frame.old frame.new command.old command.new }
     {
-        let replica = self.replica;
-        let stepped = replica.tick(readings, frame, command);
+        let stepped = self.replica.tick(readings, frame, command);
         step_giving(self, stepped)
     }
 
@@ -161,8 +147,7 @@ impl Ticketed {
         ensures { Steps self (give_up_outcome self.replica (length frame.old) (length command.old))
             result frame.old frame.new command.old command.new }
     {
-        let replica = self.replica;
-        let stepped = replica.give_up(frame, command);
+        let stepped = self.replica.give_up(frame, command);
         step_giving(self, stepped)
     }
 
@@ -171,8 +156,7 @@ impl Ticketed {
         ensures { Steps self (arrive_outcome self.replica bytes.now (length frame.old) (length command.old))
             result frame.old frame.new command.old command.new }
     {
-        let replica = self.replica;
-        let stepped = replica.arrive(bytes, frame, command);
+        let stepped = self.replica.arrive(bytes, frame, command);
         step_giving(self, stepped)
     }
 }

@@ -6,7 +6,7 @@ ghost use Rattle.asks.specs.Asking.{tickets_of};
 use crate::Tickets;
 use replica::Held;
 
-pub const LARGEST_TICKET: u64 = 18446744073709551615;
+pub const LARGEST_TICKET: u64 = u64::MAX;
 
 // None given.
 pub fn no_tickets(held: Held) -> Tickets
@@ -27,49 +27,50 @@ pub fn is_spent(tickets: Tickets) -> bool
 }
 
 // The ticket of the next ask.
+#[tactic(auto, unfolding(lists::specs::Choice::pick))]
 pub fn ticket_for(tickets: Tickets) -> u64
     ensures { result ≡ ticket_for (tickets_of tickets) }
 {
-    if tickets.latest == LARGEST_TICKET {
-        return 0;
-    }
-    tickets.latest + 1
+    tickets.latest.checked_add(1).unwrap_or(0)
 }
 
 // The tickets after an ask whose step leaves this, and whether its answer is ok.
+#[tactic(auto, unfolding(tickets::specs::Tickets::after_ask, lists::specs::Choice::pick))]
 pub fn after_ask(tickets: Tickets, ok: bool, held: Held) -> Tickets
     ensures { tickets_of result ≡ after_ask (tickets_of tickets) ok held }
 {
-    let mut next = tickets;
-    next.pending = false;
-    if tickets.latest == LARGEST_TICKET {
-        return next;
+    let Some(latest) = tickets.latest.checked_add(1) else {
+        return Tickets {
+            pending: false,
+            ..tickets
+        };
+    };
+    Tickets {
+        latest,
+        pending: ok,
+        held: if ok { held } else { tickets.held },
     }
-    next.latest = tickets.latest + 1;
-    next.pending = ok;
-    if ok {
-        next.held = held;
-    }
-    next
 }
 
 // The tickets after a step that was not asked, and whether its answer is ok.
+#[tactic(auto, unfolding(tickets::specs::Tickets::after_step, lists::specs::Choice::pick))]
 pub fn after_step(tickets: Tickets, ok: bool) -> Tickets
     ensures { tickets_of result ≡ after_step (tickets_of tickets) ok }
 {
-    let mut after = tickets;
     if ok {
-        after.pending = false;
+        Tickets {
+            pending: false,
+            ..tickets
+        }
+    } else {
+        tickets
     }
-    after
 }
 
 // Whether this ticket makes its step.
+#[tactic(auto, unfolding(tickets::specs::Tickets::commits))]
 pub fn commits(tickets: Tickets, ticket: u64) -> bool
     ensures { result ≡ Tickets·commits (tickets_of tickets) ticket }
 {
-    if ticket != tickets.latest {
-        return false;
-    }
-    tickets.pending
+    ticket == tickets.latest && tickets.pending
 }

@@ -3,7 +3,7 @@
 // what is new is printed, so that lines typed at a terminal are answered at once.
 #![tactic(auto)]
 
-use console::CHUNK;
+use console::{CHUNK, Gathered};
 use script::output::OUTPUT;
 
 // At most 500 lines, each cut at 2,048 bytes, and their line feeds.
@@ -18,21 +18,20 @@ fn play(rt: &impl Print, text: &[u8], output: &mut [u8; OUTPUT], printed: usize)
     n
 }
 
-// The header line is printed before anything is read.
+// The header line is printed before anything is read. Each program has its own turns: what it does with the text so far differs, and a closure for that
+// would capture the output and what was printed.
 fn run(
     rt: &(impl Input + Print),
     chunk: &mut [u8; CHUNK],
     text: &mut [u8; TEXT],
     output: &mut [u8; OUTPUT],
 ) {
-    let mut gathered = console::nothing();
+    let mut gathered = Gathered::new();
     let mut printed = play(rt, console::first(text, 0), output, 0);
     let mut played = 0;
-    let mut turns = u64::MAX;
-    while 0 < turns {
-        turns -= 1;
-        gathered = console::read_more(rt, gathered, LINES, chunk, text);
-        let size = console::ready(gathered);
+    for _ in 0..u64::MAX {
+        gathered = gathered.read_more(rt, LINES, chunk, text);
+        let size = gathered.ready();
         if played < size {
             printed = play(rt, console::first(text, size), output, printed);
             played = size;

@@ -1,6 +1,6 @@
 -- The cases P1 to P10 of document 01, "Cases", with those of document 02, L1, L2 and L8: one table, and one theorem over its rows, about the
 -- definitions that the contracts cite.
-use Rattle.std.specs.Prelude.{ℕ, ◌≡◌, refl, Bool, true, false, List, [], ◌∷◌, ◌++◌, map, replicate, ℤ, pos, Float}
+use Rattle.std.specs.Prelude.{ℕ, ◌≡◌, refl, Bool, true, false, List, [], ◌∷◌, ◌++◌, map, replicate, ℤ, pos, Float, Option, is_some, unwrap_or}
 use Rattle.std.specs.Float.{nan, inf, fin, binary32}
 use Rattle.std.specs.Float.Ieee.{is_nan, to_bits}
 use Rattle.lists.specs.Choice.{pick}
@@ -10,7 +10,6 @@ use Rattle.lists.specs.Refusals.{first_of}
 use Rattle.readings.specs.Readings.{any_mark, mark_beyond}
 use Rattle.transmitters.specs.declared.Reading.{Reading}
 use Rattle.transmitters.specs.declared.Reading.TheVariants.{Count, Newtons, Missing}
-use Rattle.transmitters.specs.declared.Converted.{Converted}
 use Rattle.transmitters.specs.Single.{exponent, magnitude, scale, floor, in_units}
 use Rattle.transmitters.specs.Conversion.{within_i32, converted_single, converted_newtons, converted, converted_row}
 use Rattle.law.specs.Fixed.{minus, divided, sum, limited, clamp}
@@ -76,9 +75,9 @@ estimate box base_view base_period = record {
 abbrev over : Bool → ℕ → ℕ → Float
 over negative m k = fin negative m (minus k)
 
--- what is read of a reading: its mark, and its count
-abbrev told : Converted → List ℤ
-told c = pos (bit c.present) ∷ c.value ∷ []
+-- what is read of a reading: its mark, and its count, 0 where it is missing
+abbrev told : Option ℤ → List ℤ
+told c = pos (bit (is_some c)) ∷ unwrap_or c (pos 0) ∷ []
 
 -- the bits of a single, what is read of it as a reading, and what is read of its bits
 abbrev sent : Float → List ℤ

@@ -6,7 +6,7 @@ ghost use Rattle.std.specs.Prelude.{◌≡◌, ◌≤◌, length, take, drop};
 ghost use Rattle.lists.specs.Choice.{pick};
 
 use std::io::Read;
-use text::printing::{at_most, put_byte};
+use text::printing::put_byte;
 
 // Of a line so many bytes are kept. No line of a script has as many (line/proofs/LongLines.antt, opening/proofs/LongOpening.antt): a line that is
 // cut is none of the format before it is cut and none after.
@@ -16,7 +16,7 @@ const LINE: usize = 2048;
 pub const CHUNK: usize = 65536;
 
 // The text so far: the first `end` bytes of an area, of which the first `whole` are whole lines, and the last line has `column` bytes. It has `lines`
-// line feeds, and nothing follows where the input ended.
+// line feeds, and nothing follows where the input ended, a flag that says nothing of the text before it.
 #[derive(Clone, Copy)]
 pub struct Gathered {
     pub end: usize,
@@ -26,110 +26,95 @@ pub struct Gathered {
     pub ended: bool,
 }
 
-// Nothing was read yet.
-pub fn nothing() -> Gathered
-    ensures { (result.end ≡ 0) × (result.whole ≡ 0) }
-{
-    Gathered {
-        end: 0,
-        whole: 0,
-        column: 0,
-        lines: 0,
-        ended: false,
-    }
-}
-
-// How much of the text is to be played: whole lines, and at the end also a last line that lacks its line feed.
-pub fn ready(g: Gathered) -> usize
-    ensures { result ≡ pick g.ended g.end g.whole }
-{
-    if g.ended { g.end } else { g.whole }
-}
-
-// One byte more, where there are fewer than `most` lines.
-fn with_byte(g: Gathered, byte: u8, most: usize, area: &mut [u8]) -> Gathered
-    requires { g.end ≤ length area.old }
-    ensures { result.end ≤ length area.old }
-{
-    let lines = g.lines;
-    if most <= lines {
-        return g;
-    }
-    if byte == 10 {
-        let end = put_byte(area, g.end, byte);
-        return Gathered {
-            end,
-            whole: end,
+impl Gathered {
+    // Nothing was read yet.
+    pub fn new() -> Self
+        ensures { (result.end ≡ 0) × (result.whole ≡ 0) }
+    {
+        Gathered {
+            end: 0,
+            whole: 0,
             column: 0,
-            lines: lines + 1,
-            ended: g.ended,
-        };
+            lines: 0,
+            ended: false,
+        }
     }
-    let column = g.column;
-    if LINE <= column {
-        return g;
-    }
-    let end = put_byte(area, g.end, byte);
-    Gathered {
-        end,
-        whole: g.whole,
-        column: column + 1,
-        lines,
-        ended: g.ended,
-    }
-}
 
-// The bytes of a chunk more.
-fn with_chunk(g: Gathered, chunk: &[u8], most: usize, area: &mut [u8]) -> Gathered
-    requires { g.end ≤ length area.old }
-    ensures { result.end ≤ length area.old }
-{
-    let mut gathered = g;
-    let mut i = 0;
-    while i < chunk.len() {
-        gathered = with_byte(gathered, chunk[i], most, area);
-        i += 1;
+    // How much of the text is to be played: whole lines, and at the end also a last line that lacks its line feed.
+    #[tactic(auto, unfolding(lists::specs::Choice::pick))]
+    pub fn ready(self) -> usize
+        ensures { result ≡ pick self.ended self.end self.whole }
+    {
+        if self.ended { self.end } else { self.whole }
     }
-    gathered
+
+    // One byte more, where there are fewer than `most` lines.
+    fn with_byte(self, byte: u8, most: usize, area: &mut [u8]) -> Self
+        requires { self.end ≤ length area.old }
+        ensures { result.end ≤ length area.old }
+    {
+        if most <= self.lines || byte != b'\n' && LINE <= self.column {
+            return self;
+        }
+        let end = put_byte(area, self.end, byte);
+        if byte == b'\n' {
+            return Gathered {
+                end,
+                whole: end,
+                column: 0,
+                lines: self.lines + 1,
+                ..self
+            };
+        }
+        Gathered {
+            end,
+            column: self.column + 1,
+            ..self
+        }
+    }
+
+    // The bytes of a chunk more. By a `for`: a closure would have to take the area with it.
+    fn with_chunk(self, chunk: &[u8], most: usize, area: &mut [u8]) -> Self
+        requires { self.end ≤ length area.old }
+        ensures { result.end ≤ length area.old }
+    {
+        let mut gathered = self;
+        for byte in chunk {
+            gathered = gathered.with_byte(*byte, most, area);
+        }
+        gathered
+    }
+
+    // Reads once from standard input. The text ends where the input does or a read fails, or with `most` lines. That the area has the bytes on standard
+    // input, each line cut, no contract can say.
+    pub fn read_more(
+        self,
+        rt: &impl Input,
+        most: usize,
+        chunk: &mut [u8; CHUNK],
+        area: &mut [u8],
+    ) -> Self
+        ensures { result.end ≤ length area.old }
+    {
+        let filled = rt.reader().read(chunk).unwrap_or(0);
+        let before = Gathered {
+            end: self.end.min(area.len()),
+            ended: filled == 0,
+            ..self
+        };
+        let next = before.with_chunk(first(chunk, filled), most, area);
+        Gathered {
+            ended: next.ended || most <= next.lines,
+            ..next
+        }
+    }
 }
 
 // The first n bytes of an area, or all that there are.
 pub fn first(bytes: &[u8], n: usize) -> &[u8]
     ensures { result.now ≡ take n bytes.now }
 {
-    if bytes.len() <= n {
-        return bytes;
-    }
-    &bytes[0..n]
-}
-
-// Reads once from standard input. The text ends where the input does or a read fails, or with `most` lines. That the area has the bytes on standard
-// input, each line cut, no contract can say.
-pub fn read_more(
-    rt: &impl Input,
-    g: Gathered,
-    most: usize,
-    chunk: &mut [u8; CHUNK],
-    area: &mut [u8],
-) -> Gathered
-    ensures { result.end ≤ length area.old }
-{
-    let filled = rt.reader().read(chunk).unwrap_or(0);
-    let before = Gathered {
-        end: at_most(g.end, area.len()),
-        whole: g.whole,
-        column: g.column,
-        lines: g.lines,
-        ended: filled == 0,
-    };
-    let next = with_chunk(before, first(chunk, filled), most, area);
-    Gathered {
-        end: next.end,
-        whole: next.whole,
-        column: next.column,
-        lines: next.lines,
-        ended: next.ended | (most <= next.lines),
-    }
+    &bytes[..n.min(bytes.len())]
 }
 
 // Hands the bytes of an area after the first `from`, up to the first n, to standard output, and tells how many those are. What was written no

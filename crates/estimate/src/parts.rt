@@ -8,7 +8,7 @@ ghost use Rattle.estimate.specs.Reading.{state_in, readings_in};
 use crate::Estimate;
 use crate::marks::{marks_byte, marks_in};
 use octets::values::{VALUE_LENGTH, put_values, read_values};
-use octets::word::put_byte;
+use octets::word::put_bytes;
 use readings::Readings;
 
 pub fn state_length(n: usize) -> usize
@@ -62,7 +62,7 @@ pub fn put_estimate(n: usize, m: usize, estimate: Estimate, area: &mut [u8], at:
     put_values(&state[0..n], area, at);
     let readings = estimate.readings;
     let readings_at = at + state_length(n);
-    put_byte(area, readings_at, marks_byte(readings));
+    put_bytes(area, readings_at, &[marks_byte(readings)]);
     let values = readings.values;
     put_values(&values[0..m], area, readings_at + 1);
 }

@@ -1,6 +1,6 @@
 -- Reading a command: which refusal it makes, what it then gives, and the condition of refusal 8 as plain facts. Assumes nothing.
 use mathlib.Core.Path.{◌≡◌, refl, sym, ap, ◌∙◌}
-use mathlib.Core.Bool.{Bool, true, false, not}
+use mathlib.Core.Bool.{Bool, true, false, not, ◌&&◌}
 use mathlib.Core.List.{List}
 use Prim.Native.Nat.{ℕ, suc, ◌≤◌}
 use native.Mathlib.Omega.{arith}
@@ -17,6 +17,11 @@ use Rattle.frame.specs.CommandReading.{is_command, command_in, read_command_refu
 pub most-commands : (p : ℕ) → commands_ok p ≡ true → p ≤ 4
 unfolding commands_ok
 most-commands p e = leb-true p 4 (both (leb 1 p) _ e).1
+
+-- what the code's test of p says
+pub commands : (p : ℕ) (b : Bool) → (leb 1 p && leb p 4) ≡ b → commands_ok p ≡ b
+unfolding commands_ok
+commands p b e = e
 
 -- ---- the bytes
 

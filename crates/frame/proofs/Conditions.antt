@@ -1,12 +1,12 @@
 -- The conditions of refusal 8 as plain facts, and the facts as conditions. Assumes nothing.
-use mathlib.Core.Path.{◌≡◌, ◌∙◌}
-use mathlib.Core.Bool.{true, false}
+use mathlib.Core.Path.{◌≡◌, refl, sym, ap, ◌∙◌}
+use mathlib.Core.Bool.{Bool, true, false, ◌&&◌}
 use mathlib.Core.List.{List}
 use Prim.Native.Nat.{ℕ, ◌+◌, ◌≤◌, ◌<◌}
 use native.Mathlib.Omega.{arith}
 use lib.ListN.{length, get_or}
 use lib.Dec.{eqb, leb}
-use borrow.Author.Tests.{eq-eqb, ne_eqb, eqb-true, leb-true}
+use borrow.Author.Tests.{eq-eqb, ne_eqb, eqb-true, leb-true, leb-false}
 use Rattle.lists.proofs.Booleans.{both}
 use Rattle.lists.proofs.Choice.{pick-ok, pick_true, pick-false}
 use Rattle.octets.specs.Words.{number_at}
@@ -15,6 +15,27 @@ use Rattle.frame.specs.Sizes.{sizes_ok}
 use Rattle.frame.specs.Kinds.{kind_ok, part_count, has_parts}
 use Rattle.frame.specs.Lengths.{header_length, pair_start, parts_start, frame_length}
 use Rattle.frame.specs.Reading.{kind_in, length_ok, part_count_ok, byte_three_ok, pairs_ok, header_ok}
+
+-- ---- what the code answers by `&&`, a test after the other: where the first holds it is the second, and else it is the first
+
+pub and_then : (t u v : Bool) → t ≡ true → v ≡ u → v ≡ t && u
+and_then t u v e i = rw e i
+
+pub and_else : (t u v : Bool) → t ≡ false → v ≡ t → v ≡ t && u
+and_else t u v e i = rw e (i ∙ e)
+
+joined : (a b c : Bool) → (a && b) && c ≡ a && (b && c)
+joined true b c = refl
+joined false b c = refl
+
+-- the tests of a chain stand in the order of the definition
+pub chain_of_four : (a b c d v₁ v₂ r : Bool) → v₁ ≡ a && b → v₂ ≡ v₁ && c → r ≡ v₂ && d → r ≡ a && (b && (c && d))
+chain_of_four true b c d v₁ v₂ r e₁ e₂ e = e ∙ ap (λ v. v && d) (e₂ ∙ ap (λ v. v && c) e₁) ∙ joined b c d
+chain_of_four false b c d v₁ v₂ r e₁ e₂ e = e ∙ ap (λ v. v && d) (e₂ ∙ ap (λ v. v && c) e₁)
+
+pub chain_of_five : (a b c d e v₁ v₂ v₃ r : Bool) → v₁ ≡ a && b → v₂ ≡ v₁ && c → v₃ ≡ v₂ && d → r ≡ v₃ && e → r ≡ a && (b && (c && (d && e)))
+chain_of_five true b c d e v₁ v₂ v₃ r e₁ e₂ e₃ h = chain_of_four b c d e v₂ v₃ r (e₂ ∙ ap (λ v. v && c) e₁) e₃ h
+chain_of_five false b c d e v₁ v₂ v₃ r e₁ e₂ e₃ h = h ∙ ap (λ v. v && e) (e₃ ∙ ap (λ v. v && d) (e₂ ∙ ap (λ v. v && c) e₁))
 
 pub record Sized (n m : ℕ) : Type 0 where
   pub n-low : 1 ≤ n
@@ -57,6 +78,14 @@ module _ (n m : ℕ) (b : List ℕ) where
   pub too_short : length b < header_length → header_ok n m b ≡ false
   unfolding header_ok length_ok
   too_short h = let l = length-least in rw (ne_eqb (length b) (frame_length n m (kind_in b)) (λ e. omega arith))
+
+  with-room-by : (room : Bool) → leb header_length (length b) ≡ room → room && header_ok n m b ≡ header_ok n m b
+  with-room-by true e = refl
+  with-room-by false e = sym (too_short (leb-false header_length (length b) e))
+
+  -- bytes that are asked for room first are asked no more
+  pub with_room : leb header_length (length b) && header_ok n m b ≡ header_ok n m b
+  with_room = with-room-by (leb header_length (length b)) refl
 
   -- a header is there in any case
   pub header-there : Header n m b → header_length ≤ length b

@@ -1,6 +1,5 @@
--- The definitions, in the order to read: answers and sizes, kinds and lengths, the format, what reading finds and what writing does, commands,
+-- The definitions, in the order to read: sizes, kinds and lengths, the format, what reading finds and what writing does, commands,
 -- worked frames.
-pub mod Answers
 pub mod Sizes
 pub mod Kinds
 pub mod Lengths

@@ -7,9 +7,11 @@ ghost use Rattle.frame.specs.CommandReading.{is_command, command_in};
 
 use crate::CommandFields;
 use crate::lengths::{COMMAND_START, command_length};
-use estimate::marks::bit_of;
 use octets::values::{VALUE_LENGTH, put_values, read_values};
-use octets::word::{put_4, put_u32, u32_at};
+use octets::word::{put_bytes, put_u32, u32_at};
+
+// Byte 2 says whether a command is marked: it is at most this.
+const MOST_MARK: u8 = 1;
 
 // Writes a command and returns its length.
 pub(crate) fn put_command(
@@ -23,7 +25,7 @@ pub(crate) fn put_command(
     ensures { (result ≡ length (command_bytes p period values limited))
         × (area.new ≡ put area.old 0 (command_bytes p period values limited)) }
 {
-    put_4(area, 0, 5, p as u8, bit_of(limited), 0);
+    put_bytes(area, 0, &[5, p as u8, u8::from(limited), 0]);
     put_u32(area, 4, period);
     put_values(&values[0..p], area, COMMAND_START);
     COMMAND_START + VALUE_LENGTH * p
@@ -34,23 +36,11 @@ pub(crate) fn is_command(p: usize, bytes: &[u8]) -> bool
     requires { p ≤ 4 }
     ensures { result ≡ is_command p bytes.now }
 {
-    if bytes.len() != command_length(p) {
-        return false;
-    }
-    let kind = bytes[0];
-    let count = bytes[1];
-    let byte_two = bytes[2];
-    let byte_three = bytes[3];
-    if kind != 5 {
-        return false;
-    }
-    if count != p as u8 {
-        return false;
-    }
-    if 1 < byte_two {
-        return false;
-    }
-    byte_three == 0
+    bytes.len() == command_length(p)
+        && bytes[0] == 5
+        && usize::from(bytes[1]) == p
+        && bytes[2] <= MOST_MARK
+        && bytes[3] == 0
 }
 
 // The period, the values and the mark of a command, with 0 in the places beyond p.

@@ -9,29 +9,18 @@ use crate::Frame;
 use crate::kinds::{kind_ok, part_count};
 use crate::lengths::{HEADER_LENGTH, frame_length};
 use estimate::Estimate;
-use octets::word::{put_4, put_u32, u32_at};
+use octets::word::{put_bytes, put_u32, u32_at};
 
 // Length, kind, part count and byte 3 are what they must be.
 pub(crate) fn header_ok(n: usize, m: usize, bytes: &[u8]) -> bool
     requires { (n ≤ 6) × (m ≤ 4) }
     ensures { result ≡ header_ok n m bytes.now }
 {
-    if bytes.len() < HEADER_LENGTH {
-        return false;
-    }
-    let kind = bytes[0];
-    let count = bytes[2];
-    let zero = bytes[3];
-    if bytes.len() != frame_length(n, m, kind) {
-        return false;
-    }
-    if !kind_ok(kind) {
-        return false;
-    }
-    if count != part_count(kind) {
-        return false;
-    }
-    zero == 0
+    bytes.len() >= HEADER_LENGTH
+        && bytes.len() == frame_length(n, m, bytes[0])
+        && kind_ok(bytes[0])
+        && bytes[2] == part_count(bytes[0])
+        && bytes[3] == 0
 }
 
 // The fields of a header, with an estimate.
@@ -60,7 +49,11 @@ pub(crate) fn put_header(frame: Frame, area: &mut [u8])
     requires { header_length ≤ length area.old }
     ensures { area.new ≡ put area.old 0 (header frame) }
 {
-    put_4(area, 0, frame.kind, frame.sender, part_count(frame.kind), 0);
+    put_bytes(
+        area,
+        0,
+        &[frame.kind, frame.sender, part_count(frame.kind), 0],
+    );
     put_u32(area, 4, frame.period);
     put_u32(area, 8, frame.view);
     put_u32(area, 12, frame.base_view);

@@ -1,4 +1,5 @@
 // The kinds of frames, and what is asked of them.
+// Numbers, and no enum: a frame that is handed in may have a kind that there is not, which `write` refuses by 8 (`write_refusal`).
 ghost use Rattle.std.specs.Prelude.{◌≡◌};
 ghost use Rattle.frame.specs.Kinds.{kind_ok, part_count, has_parts};
 
@@ -14,13 +15,7 @@ pub const ESTIMATE: u8 = 4;
 pub fn kind_ok(kind: u8) -> bool
     ensures { result ≡ kind_ok kind }
 {
-    match kind {
-        PROPOSE => true,
-        ACK => true,
-        DECIDE => true,
-        ESTIMATE => true,
-        _ => false,
-    }
+    matches!(kind, PROPOSE | ACK | DECIDE | ESTIMATE)
 }
 
 // How many parts its frames have.
@@ -28,10 +23,7 @@ pub(crate) fn part_count(kind: u8) -> u8
     ensures { result ≡ part_count kind }
 {
     match kind {
-        PROPOSE => 2,
-        ACK => 0,
-        DECIDE => 2,
-        ESTIMATE => 2,
+        PROPOSE | DECIDE | ESTIMATE => 2,
         _ => 0,
     }
 }

@@ -7,17 +7,16 @@ pub mod kinds;
 pub mod lengths;
 mod parts;
 
-ghost use Rattle.std.specs.Prelude.{◌≡◌, ◌≤◌, length};
+ghost use Rattle.std.specs.Prelude.{◌≡◌, ◌≤◌, ◌&&◌, length, leb, IfOk};
+ghost use Rattle.refusal.specs.Numbers.{number_of};
 ghost use Rattle.octets.specs.Areas.{put, over};
-ghost use Rattle.frame.specs.Answers.{number};
 ghost use Rattle.frame.specs.Sizes.{sizes_ok};
 ghost use Rattle.frame.specs.Lengths.{longest_frame};
 ghost use Rattle.frame.specs.Format.{frame_bytes};
-ghost use Rattle.frame.specs.Fields.{blank};
 ghost use Rattle.frame.specs.Reading.{read_refusal, read_frame};
 ghost use Rattle.frame.specs.Writing.{well_formed, write_refusal, written};
 ghost use Rattle.frame.specs.Command.{command_refusal, command_written, command_values, command_limited};
-ghost use Rattle.frame.specs.CommandReading.{read_command_refusal, read_command, no_command};
+ghost use Rattle.frame.specs.CommandReading.{read_command_refusal, read_command};
 
 use command::{command_in, is_command, put_command};
 use estimate::marks::is_writable;
@@ -28,8 +27,9 @@ use kinds::{has_parts, kind_ok};
 use lengths::{COMMAND_START, HEADER_LENGTH, LONGEST_COMMAND, LONGEST_FRAME, PARTS_START};
 use octets::values::read_values;
 use parts::{checked_readings, pairs_ok, put_pairs};
+use refusal::Refusal;
 
-// The kind is one of `kinds`. Where it has no parts, the bytes carry no estimate.
+// The kind is a number of `kinds`. Where it has no parts, the bytes carry no estimate.
 #[derive(Clone, Copy)]
 pub struct Frame {
     pub kind: u8,
@@ -41,35 +41,8 @@ pub struct Frame {
     pub estimate: Estimate,
 }
 
-// Done: nothing is refused. Sizes is refusal 2, Area 5 and Malformed 8.
-#[derive(Clone, Copy)]
-pub enum Answer {
-    Done,
-    Sizes,
-    Area,
-    Malformed,
-}
-
-// Document 01's number of an answer, 0 where nothing is refused.
-pub fn number_of(answer: Answer) -> u8
-    ensures { result ≡ number answer }
-{
-    match answer {
-        Answer::Done => 0,
-        Answer::Sizes => 2,
-        Answer::Area => 5,
-        Answer::Malformed => 8,
-    }
-}
-
-// The frame is blank where reading is refused.
-#[derive(Clone, Copy)]
-pub struct Parsed {
-    pub answer: Answer,
-    pub frame: Frame,
-}
-
-// What the bytes of a command say. It is limited where clamping or limits changed a value in the update or the command it comes from.
+// What the bytes of a command say. It is limited where clamping or limits changed a value in the update or the command it comes from; the values count
+// either way.
 #[derive(Clone, Copy)]
 pub struct CommandFields {
     pub period: u32,
@@ -77,97 +50,42 @@ pub struct CommandFields {
     pub limited: bool,
 }
 
-// The command is all 0, and not marked, where reading is refused.
-#[derive(Clone, Copy)]
-pub struct ParsedCommand {
-    pub answer: Answer,
-    pub command: CommandFields,
+// A size is from 1 to the most that there may be.
+fn in_range(size: usize, most: usize) -> bool
+    ensures { result ≡ (leb 1 size && leb size most) }
+{
+    1 <= size && size <= most
 }
 
-// The length is 0 where writing is refused.
-#[derive(Clone, Copy)]
-pub struct Written {
-    pub answer: Answer,
-    pub length: usize,
-}
-
-// n states and m readings are within their ranges.
+// n states and m readings are within their ranges. They go in apart, here and below: they are two numbers of the settings, which C hands in apart.
 fn sizes_ok(n: usize, m: usize) -> bool
     ensures { result ≡ sizes_ok n m }
 {
-    if n < 1 {
-        return false;
-    }
-    if 6 < n {
-        return false;
-    }
-    if m < 1 {
-        return false;
-    }
-    m <= 4
-}
-
-// What a refused reading gives: a blank frame.
-fn refused_read(answer: Answer) -> Parsed
-    ensures { (result.answer ≡ answer) × (result.frame ≡ blank) }
-{
-    let estimate = no_estimate();
-    Parsed {
-        answer,
-        frame: Frame {
-            kind: 0,
-            sender: 0,
-            period: 0,
-            view: 0,
-            base_view: 0,
-            base_period: 0,
-            estimate,
-        },
-    }
-}
-
-// What a refused writing gives: no byte.
-fn refused_write(answer: Answer) -> Written
-    ensures { (result.answer ≡ answer) × (result.length ≡ 0) }
-{
-    Written { answer, length: 0 }
+    in_range(n, 6) && in_range(m, 4)
 }
 
 // Reads a frame of n states and m readings. Once its pairs are found to say where the parts lie, each part goes to its own reader.
-pub fn read(n: usize, m: usize, bytes: &[u8]) -> Parsed
-    ensures answer { number result.answer ≡ read_refusal n m bytes.now }
-    ensures frame { result.frame ≡ read_frame n m bytes.now }
+pub fn read(n: usize, m: usize, bytes: &[u8]) -> Result<Frame, Refusal>
+    ensures answer { number_of result ≡ read_refusal n m bytes.now }
+    ensures frame { IfOk result (λ frame. frame ≡ read_frame n m bytes.now) }
 {
     if !sizes_ok(n, m) {
-        return refused_read(Answer::Sizes);
+        return Err(Refusal::Sizes);
     }
     if !header_ok(n, m, bytes) {
-        return refused_read(Answer::Malformed);
+        return Err(Refusal::Frame);
     }
-    let kind = bytes[0];
-    if !has_parts(kind) {
-        let frame = headed_by(bytes, no_estimate());
-        return Parsed {
-            answer: Answer::Done,
-            frame,
-        };
+    if !has_parts(bytes[0]) {
+        return Ok(headed_by(bytes, no_estimate()));
     }
     if !pairs_ok(n, m, bytes) {
-        return refused_read(Answer::Malformed);
+        return Err(Refusal::Frame);
     }
     let state_end = PARTS_START + state_length(n);
     let readings_end = state_end + readings_length(m);
     let state = read_state(n, &bytes[PARTS_START..state_end]);
-    let checked = checked_readings(m, &bytes[state_end..readings_end]);
-    if !checked.ok {
-        return refused_read(Answer::Malformed);
-    }
-    let readings = checked.readings;
-    let frame = headed_by(bytes, Estimate { state, readings });
-    Parsed {
-        answer: Answer::Done,
-        frame,
-    }
+    let readings = checked_readings(m, &bytes[state_end..readings_end]).ok_or(Refusal::Frame)?;
+    Ok(headed_by(bytes, Estimate { state, readings }))
 }
 
 // A kind that there is; marks and absent values that a frame can hold.
@@ -175,15 +93,7 @@ fn well_formed(m: usize, frame: Frame) -> bool
     requires { m ≤ 4 }
     ensures { result ≡ well_formed m frame }
 {
-    let kind = frame.kind;
-    if !kind_ok(kind) {
-        return false;
-    }
-    if !has_parts(kind) {
-        return true;
-    }
-    let readings = frame.estimate.readings;
-    is_writable(m, readings)
+    kind_ok(frame.kind) && (!has_parts(frame.kind) || is_writable(m, frame.estimate.readings))
 }
 
 // Writes a frame and returns its length.
@@ -193,8 +103,7 @@ fn put_frame(n: usize, m: usize, frame: Frame, area: &mut [u8]) -> usize
         × (area.new ≡ put area.old 0 (frame_bytes n m frame)) }
 {
     put_header(frame, area);
-    let kind = frame.kind;
-    if !has_parts(kind) {
+    if !has_parts(frame.kind) {
         return HEADER_LENGTH;
     }
     put_pairs(n, m, area);
@@ -204,25 +113,21 @@ fn put_frame(n: usize, m: usize, frame: Frame, area: &mut [u8]) -> usize
 }
 
 // Writes a frame of n states and m readings to the start of an area.
-pub fn write(n: usize, m: usize, frame: Frame, area: &mut [u8]) -> Written
-    ensures answer { number result.answer ≡ write_refusal n m frame area.old }
-    ensures count { result.length ≡ length (written n m frame area.old) }
+pub fn write(n: usize, m: usize, frame: Frame, area: &mut [u8]) -> Result<usize, Refusal>
+    ensures answer { number_of result ≡ write_refusal n m frame area.old }
+    ensures count { IfOk result (λ size. size ≡ length (written n m frame area.old)) }
     ensures bytes { area.new ≡ over (written n m frame area.old) area.old }
 {
     if !sizes_ok(n, m) {
-        return refused_write(Answer::Sizes);
+        return Err(Refusal::Sizes);
     }
     if area.len() < LONGEST_FRAME {
-        return refused_write(Answer::Area);
+        return Err(Refusal::Area);
     }
     if !well_formed(m, frame) {
-        return refused_write(Answer::Malformed);
+        return Err(Refusal::Frame);
     }
-    let length = put_frame(n, m, frame, area);
-    Written {
-        answer: Answer::Done,
-        length,
-    }
+    Ok(put_frame(n, m, frame, area))
 }
 
 // Writes a command of p values to the start of an area.
@@ -232,61 +137,32 @@ pub fn write_command(
     values: [i32; 4],
     limited: bool,
     area: &mut [u8],
-) -> Written
-    ensures answer { number result.answer ≡ command_refusal p area.old }
-    ensures count { result.length ≡ length (command_written p period values limited area.old) }
+) -> Result<usize, Refusal>
+    ensures answer { number_of result ≡ command_refusal p area.old }
+    ensures count { IfOk result (λ size. size ≡ length (command_written p period values limited area.old)) }
     ensures bytes { area.new ≡ over (command_written p period values limited area.old) area.old }
 {
-    if p < 1 {
-        return refused_write(Answer::Sizes);
-    }
-    if 4 < p {
-        return refused_write(Answer::Sizes);
+    if !in_range(p, 4) {
+        return Err(Refusal::Sizes);
     }
     if area.len() < LONGEST_COMMAND {
-        return refused_write(Answer::Area);
+        return Err(Refusal::Area);
     }
-    let length = put_command(p, period, values, limited, area);
-    Written {
-        answer: Answer::Done,
-        length,
-    }
-}
-
-// What a refused reading of a command gives.
-fn refused_command(answer: Answer) -> ParsedCommand
-    ensures { (result.answer ≡ answer) × (result.command ≡ no_command) }
-{
-    let values = [0i32; 4];
-    ParsedCommand {
-        answer,
-        command: CommandFields {
-            period: 0,
-            values,
-            limited: false,
-        },
-    }
+    Ok(put_command(p, period, values, limited, area))
 }
 
 // Reads a command of p values.
-pub fn read_command(p: usize, bytes: &[u8]) -> ParsedCommand
-    ensures answer { number result.answer ≡ read_command_refusal p bytes.now }
-    ensures command { result.command ≡ read_command p bytes.now }
+pub fn read_command(p: usize, bytes: &[u8]) -> Result<CommandFields, Refusal>
+    ensures answer { number_of result ≡ read_command_refusal p bytes.now }
+    ensures command { IfOk result (λ command. command ≡ read_command p bytes.now) }
 {
-    if p < 1 {
-        return refused_command(Answer::Sizes);
-    }
-    if 4 < p {
-        return refused_command(Answer::Sizes);
+    if !in_range(p, 4) {
+        return Err(Refusal::Sizes);
     }
     if !is_command(p, bytes) {
-        return refused_command(Answer::Malformed);
+        return Err(Refusal::Frame);
     }
-    let command = command_in(p, bytes);
-    ParsedCommand {
-        answer: Answer::Done,
-        command,
-    }
+    Ok(command_in(p, bytes))
 }
 
 // The values of the command at the start of an area: 0 in each place where the area is too short for one.
@@ -305,8 +181,5 @@ pub fn command_values(area: &[u8]) -> [i32; 4]
 pub fn command_limited(area: &[u8]) -> bool
     ensures { result ≡ command_limited area.now }
 {
-    if area.len() < LONGEST_COMMAND {
-        return false;
-    }
-    area[2] == 1
+    area.len() >= LONGEST_COMMAND && area[2] == 1
 }

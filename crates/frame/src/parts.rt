@@ -1,5 +1,5 @@
 // The pairs of offset and length, and the readings' part, which is looked at while it is taken.
-ghost use Rattle.std.specs.Prelude.{◌≡◌, true, false, ◌≤◌, length};
+ghost use Rattle.std.specs.Prelude.{◌≡◌, ◌≤◌, length, is_some, IfSome};
 ghost use Rattle.octets.specs.Areas.{put};
 ghost use Rattle.estimate.specs.Lengths.{readings_length};
 ghost use Rattle.estimate.specs.Reading.{readings_in, readings_ok};
@@ -12,7 +12,7 @@ use estimate::marks::marks_below;
 use estimate::parts::{readings_length, state_length};
 use octets::values::VALUE_LENGTH;
 use octets::word::{put_u16, signed, u16_at, u32_at};
-use readings::{Readings, no_readings};
+use readings::Readings;
 
 // Where the pairs stand: of each part its offset, then its length.
 const STATE_OFFSET: usize = HEADER_LENGTH;
@@ -29,62 +29,36 @@ pub(crate) fn pairs_ok(n: usize, m: usize, bytes: &[u8]) -> bool
     ensures { result ≡ pairs_ok n m bytes.now }
 {
     let states = state_length(n);
-    if u16_at(bytes, STATE_OFFSET) != PARTS_START {
-        return false;
-    }
-    if u16_at(bytes, STATE_LENGTH) != states {
-        return false;
-    }
-    if u16_at(bytes, READINGS_OFFSET) != PARTS_START + states {
-        return false;
-    }
-    u16_at(bytes, READINGS_LENGTH) == readings_length(m)
+    u16_at(bytes, STATE_OFFSET) == PARTS_START
+        && u16_at(bytes, STATE_LENGTH) == states
+        && u16_at(bytes, READINGS_OFFSET) == PARTS_START + states
+        && u16_at(bytes, READINGS_LENGTH) == readings_length(m)
 }
 
-// `ok` says that a frame may have the part; only then are these its readings.
-#[derive(Clone, Copy)]
-pub(crate) struct Checked {
-    pub ok: bool,
-    pub readings: Readings,
-}
-
-// A part that no frame may have.
-fn refused_part() -> Checked
-    ensures { result.ok ≡ false }
-{
-    let readings = no_readings();
-    Checked {
-        ok: false,
-        readings,
-    }
-}
-
-// The readings reader: each mark and each value is taken once, and looked at as it is taken. The lowest of the marks that are left is the next.
-pub(crate) fn checked_readings(m: usize, part: &[u8]) -> Checked
+// The readings reader: each mark and each value is taken once, and looked at as it is taken; none where a frame may not
+// have the part. The lowest of the marks that are left is the next.
+pub(crate) fn checked_readings(m: usize, part: &[u8]) -> Option<Readings>
     requires { (1 ≤ m) × (m ≤ 4) × (length part.now ≡ readings_length m) }
-    ensures ok { result.ok ≡ readings_ok m part.now }
-    ensures readings { result.ok ≡ true → result.readings ≡ readings_in m part.now }
+    ensures ok { is_some result ≡ readings_ok m part.now }
+    ensures readings { IfSome result (λ y. y ≡ readings_in m part.now) }
 {
     let mut marks_left = part[0];
     if !marks_below(m, marks_left) {
-        return refused_part();
+        return None;
     }
     let mut present = [false; 4];
     let mut values = [0i32; 4];
-    let mut j = 0;
-    while j < m {
+    for j in 0..m {
         let mark = marks_left % 2 == 1;
         let value = signed(u32_at(part, 1 + VALUE_LENGTH * j));
-        if !(mark | (value == 0)) {
-            return refused_part();
+        if !mark && value != 0 {
+            return None;
         }
         present[j] = mark;
         values[j] = value;
-        marks_left = marks_left / 2;
-        j += 1;
+        marks_left /= 2;
     }
-    let readings = Readings { present, values };
-    Checked { ok: true, readings }
+    Some(Readings { present, values })
 }
 
 pub(crate) fn put_pairs(n: usize, m: usize, area: &mut [u8])

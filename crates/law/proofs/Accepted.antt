@@ -1,10 +1,6 @@
 -- What is known of settings that are not refused: the ranges of n, m and p, and of the coefficients. Assumes nothing.
-use mathlib.Core.Path.{◌≡◌}
-use mathlib.Core.Bool.{true, ◌&&◌}
-use Prim.Native.Nat.{ℕ, ◌≤◌}
-use native.Mathlib.Omega.{arith}
-use lib.Dec.{leb}
-use borrow.Author.Tests.{leb-true, not-false}
+use Rattle.std.proofs.Common.{◌≡◌, true, ◌&&◌, ℕ, ◌≤◌, arith, leb}
+use Rattle.std.proofs.lemmas.Bool.{leb-true, not-false}
 use Rattle.lists.proofs.Booleans.{both}
 use Rattle.lists.proofs.Refusals.{passed}
 use Rattle.law.specs.declared.Settings.{Settings}

@@ -1,10 +1,7 @@
 -- What `limits_change` tells: whether a number's limits give another one. Assumes nothing.
-use mathlib.Core.Path.{◌≡◌, refl, sym, subst, ◌∙◌}
-use mathlib.Core.Bool.{Bool, true, false, ◌||◌}
-use native.Mathlib.Omega.{arith}
-use lib.IntN.{ℤ, pos, negsuc}
-use lib.Signed.{lt_z}
-use borrow.Author.Tests.{ltb-true}
+use Rattle.std.proofs.Common.{◌≡◌, refl, sym, subst, ◌∙◌, Bool, true, false, ◌||◌, arith, ℤ, pos, negsuc}
+use Rattle.std.specs.Int.Signed.{lt_z}
+use Rattle.std.proofs.lemmas.Bool.{ltb-true}
 use Rattle.lists.proofs.Booleans.{never}
 use Rattle.lists.proofs.Choice.{pick_true, pick-false}
 use Rattle.law.specs.Fixed.{limited, limits_change}

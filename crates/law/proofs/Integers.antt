@@ -1,16 +1,13 @@
 -- Laws of the integers: sizes of sums and products, and when a number fits a signed width. Assumes nothing.
-use mathlib.Core.Path.{◌≡◌, refl, sym, subst}
-use mathlib.Core.Bool.{Bool, true, false, cond}
-use Prim.Native.Nat.{ℕ, zero, suc, ◌+◌, ◌*◌, ◌-◌, ◌^◌, ◌≤◌, ◌<◌}
-use native.Mathlib.Nat as NatL
-use native.Mathlib.Omega.{arith}
-use lib.Dec.{ltb, leb, lit<}
-use lib.IntN.{ℤ, pos, negsuc, neg_ℤ, nat_abs, sub_ℕ, ◌+ℤ◌, ◌-ℤ◌, ◌*ℤ◌}
-use lib.Signed.{lt_z}
-use borrow.Author.Tests.{ltb-true, ltb-false, leb-true}
-use mir.Syntax.{Width, w32, w64}
-use mir.Val.{SFits, hbits, to_z, of_z}
-use mir.Facts.{to_z-of_z, sfits_widen}
+use Rattle.std.proofs.Common.{◌≡◌, refl, sym, subst, Bool, true, false, cond, ℕ, zero, suc, ◌+◌, ◌*◌, ◌-◌, ◌^◌, ◌≤◌, ◌<◌, arith, ltb, leb, ℤ, pos, negsuc, ◌+ℤ◌, ◌-ℤ◌, ◌*ℤ◌, w32, w64, FitsSigned, to_z, of_z}
+use Rattle.std.specs.Int.{Width}
+use mir.Val.{hbits}
+use Rattle.std.proofs.Math.Dec.{lit<}
+use Rattle.std.proofs.Math.IntN.{neg_ℤ, nat_abs, sub_ℕ}
+use Rattle.std.proofs.Math.Facts.{to_z-of_z, sfits_widen}
+use Rattle.std.proofs.Math.Nat as NatL
+use Rattle.std.specs.Int.Signed.{lt_z}
+use Rattle.std.proofs.lemmas.Bool.{ltb-true, ltb-false, leb-true}
 use Rattle.lists.specs.Choice.{pick}
 use Rattle.lists.proofs.Booleans.{both}
 use Rattle.lists.proofs.Choice.{pick-holds}
@@ -51,20 +48,20 @@ product-size (negsuc a) (pos b) = negative-size (suc a * b)
 product-size (negsuc a) (negsuc b) = refl
 
 -- a size below half the width's power fits
-pub small-fits : (w : Width) (z : ℤ) → nat_abs z < 2 ^ hbits w → SFits w z
+pub small-fits : (w : Width) (z : ℤ) → nat_abs z < 2 ^ hbits w → FitsSigned w z
 small-fits w (pos n) h = record { sfits = h }
 small-fits w (negsuc n) h = record { sfits = omega arith }
 
-pub fits-size : {w : Width} {z : ℤ} → SFits w z → nat_abs z ≤ 2 ^ hbits w
+pub fits-size : {w : Width} {z : ℤ} → FitsSigned w z → nat_abs z ≤ 2 ^ hbits w
 fits-size {w} {z = pos n} h = NatL.le_of_lt h.sfits
 fits-size {w} {z = negsuc n} h = h.sfits
 
-pub wide : {z : ℤ} → SFits w32 z → SFits w64 z
+pub wide : {z : ℤ} → FitsSigned w32 z → FitsSigned w64 z
 wide f = sfits_widen tt f
 
 -- an i32 cast to i64
-pub widened : {z : ℤ} → SFits w32 z → SFits w64 (to_z w32 (of_z w32 z))
-widened f = subst (SFits w64) (sym (to_z-of_z f)) (wide f)
+pub widened : {z : ℤ} → FitsSigned w32 z → FitsSigned w64 (to_z w32 (of_z w32 z))
+widened f = subst (FitsSigned w64) (sym (to_z-of_z f)) (wide f)
 
 coefficient-size : (c : ℤ) → in_range c ≡ true → nat_abs c ≤ 16777216
 unfolding in_range
@@ -72,40 +69,40 @@ coefficient-size (pos n) h = leb-true n 16777216 h
 coefficient-size (negsuc n) h = omega (arith, leb-true n 16777215 (both (leb n 16777215) true h).0)
 
 -- the largest product of a coefficient and an i32
-pub term-size : (c x : ℤ) → in_range c ≡ true → SFits w32 x → nat_abs (c *ℤ x) ≤ largest_product
+pub term-size : (c x : ℤ) → in_range c ≡ true → FitsSigned w32 x → nat_abs (c *ℤ x) ≤ largest_product
 term-size c x hc hx = NatL.le_trans (NatL.le_of_eq (product-size c x)) (NatL.mul-le-mul (coefficient-size c hc) (fits-size hx))
 
 -- one more such product in a sum of at most six
-module _ (total c x : ℤ) (ht : nat_abs total ≤ 6 * largest_product) (hc : in_range c ≡ true) (hx : SFits w32 x) where
-  pub term_fits : SFits w64 (c *ℤ x)
+module _ (total c x : ℤ) (ht : nat_abs total ≤ 6 * largest_product) (hc : in_range c ≡ true) (hx : FitsSigned w32 x) where
+  pub term_fits : FitsSigned w64 (c *ℤ x)
   term_fits = small-fits w64 (c *ℤ x) (omega (arith, term-size c x hc hx))
 
-  pub total-fits : SFits w64 (total +ℤ c *ℤ x)
+  pub total-fits : FitsSigned w64 (total +ℤ c *ℤ x)
   total-fits = small-fits w64 (total +ℤ c *ℤ x) (omega (arith, term-size c x hc hx, sum-size total (c *ℤ x)))
 
 -- an i32 less a number of moderate size
-pub difference-fits : (y q : ℤ) → SFits w32 y → nat_abs q ≤ 6 * largest_product → SFits w64 (y -ℤ q)
+pub difference-fits : (y q : ℤ) → FitsSigned w32 y → nat_abs q ≤ 6 * largest_product → FitsSigned w64 (y -ℤ q)
 difference-fits y q f h = small-fits w64 (y -ℤ q) (omega (arith, fits-size f, sum-size y (neg_ℤ q), minus-size q))
 
 -- a number between two that fit
-pub between-fits : (z lower upper : ℤ) → SFits w32 lower → SFits w32 upper → lt_z z lower ≡ false → lt_z upper z ≡ false → SFits w32 z
+pub between-fits : (z lower upper : ℤ) → FitsSigned w32 lower → FitsSigned w32 upper → lt_z z lower ≡ false → lt_z upper z ≡ false → FitsSigned w32 z
 between-fits (pos n) lower (pos u) fl fu l h = record { sfits = let f = fu.sfits in omega (arith, ltb-false u n h) }
 between-fits (pos n) lower (negsuc u) fl fu l h = absurd (let z : ◌≡◌ {A = ℕ} 0 1 = cc in omega arith)
 between-fits (negsuc n) (pos k) upper fl fu l h = absurd (let z : ◌≡◌ {A = ℕ} 0 1 = cc in omega arith)
 between-fits (negsuc n) (negsuc k) upper fl fu l h = record { sfits = let f = fl.sfits in omega (arith, ltb-false k n l) }
 
-pub limited-fits : (lower upper z : ℤ) → SFits w32 lower → SFits w32 upper → SFits w32 (limited lower upper z)
+pub limited-fits : (lower upper z : ℤ) → FitsSigned w32 lower → FitsSigned w32 upper → FitsSigned w32 (limited lower upper z)
 unfolding limited
 limited-fits lower upper z fl fu =
-    pick-holds (SFits w32) (lt_z z lower) lower (pick (lt_z upper z) upper z) (λ _. fl)
-    (λ l. pick-holds (SFits w32) (lt_z upper z) upper z (λ _. fu) (λ h. between-fits z lower upper fl fu l h))
+    pick-holds (FitsSigned w32) (lt_z z lower) lower (pick (lt_z upper z) upper z) (λ _. fl)
+    (λ l. pick-holds (FitsSigned w32) (lt_z upper z) upper z (λ _. fu) (λ h. between-fits z lower upper fl fu l h))
 
-least_fits : SFits w32 (negsuc 2147483647)
+least_fits : FitsSigned w32 (negsuc 2147483647)
 least_fits = record { sfits = lit< tt }
 
-largest-fits : SFits w32 (pos 2147483647)
+largest-fits : FitsSigned w32 (pos 2147483647)
 largest-fits = record { sfits = lit< tt }
 
-pub clamp-fits : (z : ℤ) → SFits w32 (clamp z)
+pub clamp-fits : (z : ℤ) → FitsSigned w32 (clamp z)
 unfolding clamp
 clamp-fits z = limited-fits (negsuc 2147483647) (pos 2147483647) z least_fits largest-fits

@@ -1,14 +1,8 @@
 -- Laws of `updated`, `commanded` and `issued`, and of their marks, for callers, who need not open the definitions. Assumes nothing.
-use mathlib.Core.Path.{◌≡◌, refl, sym, ap, ap₂, ◌∙◌}
-use mathlib.Core.Bool.{Bool, false, ◌&&◌, ◌||◌}
-use mathlib.Core.List.{List}
-use Prim.Native.Nat.{ℕ, ◌≤◌}
-use lib.Dec.{lit<}
-use lib.ListN.{length, replicate}
-use lib.IntN.{ℤ, pos}
-use mir.Syntax.{w32}
-use mir.Val.{SFits}
-use borrow.Author.Tests.{eqb-true, eq-eqb, ne_eqb}
+use Rattle.std.proofs.Common.{◌≡◌, refl, sym, ap, ◌∙◌, Bool, false, ◌&&◌, ◌||◌, List, ℕ, ◌≤◌, length, replicate, ℤ, pos, w32, FitsSigned}
+use Rattle.std.proofs.Math.Path.{ap₂}
+use Rattle.std.proofs.Math.Dec.{lit<}
+use Rattle.std.proofs.lemmas.Bool.{eqb-true, eq-eqb, ne_eqb}
 use Rattle.lists.specs.I32.{AllI32}
 use Rattle.lists.specs.Below.{any_below}
 use Rattle.lists.specs.Places.{entry, filled}
@@ -28,7 +22,7 @@ use Rattle.law.proofs.Formulas.{next-same, next-changed-same, e-normalised, e-ch
 pub sizes-accepted : (s : Settings) → refusal s ≡ 0 → Sizes s.n s.m s.p
 sizes-accepted s h = (accepted s h).sizes
 
-zero-fits : SFits w32 (pos 0)
+zero-fits : FitsSigned w32 (pos 0)
 zero-fits = record { sfits = lit< tt }
 
 module _ (s : Settings) (x : List ℤ) (y : Readings) where
@@ -47,7 +41,7 @@ module _ (s : Settings) (x : List ℤ) (y : Readings) where
 
   pub updated-fits : AllI32 x → AllI32 (updated s x y)
   unfolding updated next
-  updated-fits h = pick-holds AllI32 (stands s) _ x (λ _. filled-each (pos 0) (SFits w32) 6 s.n _ zero-fits (λ i. clamp-fits _)) (λ _. h)
+  updated-fits h = pick-holds AllI32 (stands s) _ x (λ _. filled-each (pos 0) (FitsSigned w32) 6 s.n _ zero-fits (λ i. clamp-fits _)) (λ _. h)
 
   -- the places beyond n hold 0
   pub updated-beyond : refusal s ≡ 0 → (i : ℕ) → s.n ≤ i → entry (updated s x y) i ≡ pos 0

@@ -1,19 +1,14 @@
 -- Settings whose tables are lent one by one are refused as the settings themselves: the starting state is not looked at. And the law's refusals in the
 -- place of another list. Assumes nothing.
-use mathlib.Core.Path.{◌≡◌, refl, sym, ◌∙◌}
-use mathlib.Core.List.{List, ◌++◌}
-use lib.Dec.{lit≤}
+use Rattle.std.proofs.Common.{◌≡◌, refl, sym, ◌∙◌, List, ◌++◌}
+use Rattle.std.proofs.Math.Dec.{lit≤}
 use Rattle.lists.specs.Refusals.{Refusal, first_of}
 use Rattle.lists.proofs.Refusals.{refused-first, then-passed}
 use Rattle.law.specs.declared.Settings.{Settings}
-use Rattle.law.specs.Settings.{settings_of, refusals, refusal}
+use Rattle.law.specs.Settings.{lent, refusals, refusal}
 
 module _ (s : Settings) where
-  -- the settings with their tables lent
-  abbrev pub lent : Settings
-  lent = settings_of s.n s.m s.p s.a s.l s.c s.k s.low s.high
-
-  pub refusal-lent : refusal lent ≡ refusal s
+  pub refusal-lent : refusal (lent s) ≡ refusal s
   unfolding refusal refusals
   refusal-lent = refl
 

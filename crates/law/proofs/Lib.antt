@@ -4,6 +4,7 @@ mod Nearest
 mod Changes
 mod Division
 mod Sums
+mod Listed
 mod Formulas
 pub mod Accepted
 pub mod Laws

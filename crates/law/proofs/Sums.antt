@@ -1,12 +1,9 @@
 -- Laws of `sum` and `table_in_range`: one more, the size of a sum, equal terms, and what a table in range says of its rows. Assumes nothing.
-use mathlib.Core.Path.{◌≡◌, refl, ap₂}
-use mathlib.Core.Bool.{true}
-use mathlib.Core.List.{List}
-use Prim.Native.Nat.{ℕ, zero, suc, ◌+◌, ◌*◌, ◌≤◌, ◌<◌}
-use native.Mathlib.Nat as NatL
-use native.Mathlib.Numerals.{add-one}
-use native.Mathlib.Omega.{arith}
-use lib.IntN.{ℤ, pos, nat_abs, ◌+ℤ◌}
+use Rattle.std.proofs.Common.{◌≡◌, refl, true, List, ℕ, zero, suc, ◌+◌, ◌*◌, ◌≤◌, ◌<◌, arith, ℤ, pos, ◌+ℤ◌}
+use Rattle.std.proofs.Math.Path.{ap₂}
+use Rattle.std.proofs.Math.Numerals.{add-one}
+use Rattle.std.proofs.Math.IntN.{nat_abs}
+use Rattle.std.proofs.Math.Nat as NatL
 use Rattle.law.specs.Fixed.{sum}
 use Rattle.lists.specs.Below.{all_below}
 use Rattle.lists.specs.Places.{entry}

@@ -2,5 +2,4 @@ pub mod Fixed
 pub mod Rounding
 pub mod Limits
 pub mod Settings
-pub mod Answer
 pub mod Law

@@ -5,6 +5,7 @@ use Rattle.lists.specs.Below.{all_below}
 use Rattle.lists.specs.Places.{entry}
 use Rattle.lists.specs.Refusals.{Refusal, refusal as row, first_of}
 use Rattle.law.specs.declared.Settings.{Settings}
+use Rattle.law.specs.declared.Tables.{Tables}
 use Rattle.law.specs.Fixed.{minus}
 
 -- settings whose tables a caller has by themselves, each laid out as the field of its name. The law's calls do not look at the starting state: it
@@ -12,6 +13,14 @@ use Rattle.law.specs.Fixed.{minus}
 abbrev pub settings_of : (n m p : ℕ) (a l c k low high : List ℤ) → Settings
 settings_of n m p a l c k low high =
     record { n = n; m = m; p = p; a = a; l = l; c = c; k = k; low = low; high = high; start = replicate 6 (pos 0) }
+
+-- the settings whose tables are lent
+abbrev pub settings_in : Tables → Settings
+settings_in t = settings_of t.n t.m t.p t.a.now t.l.now t.c.now t.k.now t.low.now t.high.now
+
+-- settings as the law's calls see them when their tables are lent
+abbrev pub lent : Settings → Settings
+lent s = settings_of s.n s.m s.p s.a s.l s.c s.k s.low s.high
 
 -- row i, column j of a table that is kept as one list, a row at every `stride` places
 abbrev pub cell : List ℤ → ℕ → ℕ → ℕ → ℤ

@@ -1,45 +1,39 @@
 // The commands of a state, and whether their limits changed one.
-ghost use Rattle.std.specs.Prelude.{◌≡◌, true, ◌<◌, ◌≤◌, length, pos};
-ghost use Rattle.lists.specs.Below.{all_below, any_below};
-ghost use Rattle.lists.specs.Places.{entry, filled};
-ghost use Rattle.law.specs.Settings.{cell, in_range, table_in_range};
-ghost use Rattle.law.specs.Law.{command, command_changed};
+ghost use Rattle.std.specs.Prelude.{◌≡◌, ◌<◌};
+ghost use Rattle.law.specs.Settings.{K, lower, upper, settings_in};
+ghost use Rattle.law.specs.Law.{command, command_changed, commanded, command_limited};
 
-use crate::Marked;
-use crate::fixed::{Limited, divide, limit, sum_of_products};
+use crate::fixed::{Changed, divide, limit, sum_of_products};
+use crate::{Marked, Standing, Tables};
 
 // Command j, in its own limits.
-fn command_value(k: &[i32], low: &[i32], high: &[i32], x: &[i32], n: usize, j: usize) -> Limited
-    requires { (n ≤ 6) × (j < 4) × (24 ≤ length k.now) × (j < length low.now) × (j < length high.now) × (n ≤ length x.now) × (all_below n (λ i. in_range (cell k.now 6 j i)) ≡ true) }
-    ensures { (result.value ≡ command (cell k.now 6) (entry low.now) (entry high.now) n x.now j)
-        × (result.changed ≡ command_changed (cell k.now 6) (entry low.now) (entry high.now) n x.now j) }
+fn command_value(standing: Standing, x: &[i32; 6], j: usize) -> Changed<i32>
+    requires { j < standing.tables.p }
+    ensures { (result.value ≡ command (K (settings_in standing.entry.tables)) (lower (settings_in standing.entry.tables)) (upper (settings_in standing.entry.tables)) standing.entry.tables.n x.now j)
+        × (result.changed ≡ command_changed (K (settings_in standing.entry.tables)) (lower (settings_in standing.entry.tables)) (upper (settings_in standing.entry.tables)) standing.entry.tables.n x.now j) }
 {
+    let Tables {
+        n,
+        k,
+        low,
+        high,
+        ..
+    } = standing.tables;
     let value = divide(sum_of_products(k, j * 6, x, n));
     limit(value, low[j], high[j])
 }
 
 // The commands, and 0 in the places beyond p.
-pub(crate) fn command_values<'a>(
-    k: &'a [i32],
-    low: &'a [i32],
-    high: &'a [i32],
-    x: &[i32],
-    n: usize,
-    p: usize,
-) -> Marked
-    requires { (n ≤ 6) × (p ≤ 4) × (24 ≤ length k.now) × (p ≤ length low.now) × (p ≤ length high.now) × (n ≤ length x.now) × (table_in_range (cell k.now 6) p n ≡ true) }
-    ensures { (result.commands ≡ filled (pos 0) 4 p (command (cell k.now 6) (entry low.now) (entry high.now) n x.now))
-        × (result.limited ≡ any_below p (command_changed (cell k.now 6) (entry low.now) (entry high.now) n x.now)) }
+pub(crate) fn command_values(standing: Standing, x: &[i32; 6]) -> Marked
+    ensures { (result.commands ≡ commanded (settings_in standing.entry.tables) x.now)
+        × (result.limited ≡ command_limited (settings_in standing.entry.tables) x.now) }
 {
-    let mut commands = [0i32; 4];
+    let mut commands = [0; 4];
     let mut limited = false;
-    let mut j = 0;
-    while j < p {
-        let one = command_value(k, low, high, x, n, j);
-        let value = one.value;
-        commands[j] = value;
-        limited = limited | one.changed;
-        j += 1;
+    for j in 0..standing.tables.p {
+        let one = command_value(standing, x, j);
+        commands[j] = one.value;
+        limited |= one.changed;
     }
     Marked { commands, limited }
 }

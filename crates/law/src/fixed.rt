@@ -5,13 +5,13 @@ ghost use Rattle.lists.specs.Places.{entry};
 ghost use Rattle.law.specs.Fixed.{divided, sum, limited, clamp, limits_change, clamp_changes, largest_product};
 ghost use Rattle.law.specs.Settings.{in_range};
 
-// x / 65536 to the nearest whole number, ties to the even one. `%` has the sign of x: brought to 0 and above, the remainder goes with the quotient
-// toward minus infinity, and one comparison with a half serves both sides of zero.
+// x / 65536 to the nearest whole number, ties to the even one. With the quotient toward minus infinity, one comparison of what is left with a half serves both
+// sides of zero.
 pub(crate) fn divide(x: i64) -> i64
     ensures { result ≡ divided x }
 {
-    let remainder = (x % 65536 + 65536) % 65536;
-    let below = (x - remainder) / 65536;
+    let below = x.div_euclid(65536);
+    let remainder = x.rem_euclid(65536);
     if remainder < 32768 {
         return below;
     }
@@ -24,38 +24,38 @@ pub(crate) fn divide(x: i64) -> i64
     below + 1
 }
 
-// A value brought into limits, and whether that changed it.
+// A value, or a row of values, brought into limits, and whether that changed one. The value counts either way, so this is no `Option`.
 #[derive(Clone, Copy)]
-pub(crate) struct Limited {
-    pub(crate) value: i32,
+pub(crate) struct Changed<T> {
+    pub(crate) value: T,
     pub(crate) changed: bool,
 }
 
-// x brought into the limits.
-pub(crate) fn limit(x: i64, low: i32, high: i32) -> Limited
+// x brought into the limits. `clamp` would be no plainer: it asks that low is not above high, and whether it changed x would take a second test.
+pub(crate) fn limit(x: i64, low: i32, high: i32) -> Changed<i32>
     ensures { (result.value ≡ limited low high x) × (result.changed ≡ limits_change low high x) }
 {
     if x < (low as i64) {
-        return Limited {
+        return Changed {
             value: low,
             changed: true,
         };
     }
     if (high as i64) < x {
-        return Limited {
+        return Changed {
             value: high,
             changed: true,
         };
     }
     let value = x as i32;
-    Limited {
+    Changed {
         value,
         changed: false,
     }
 }
 
 // x brought into the i32 range.
-pub(crate) fn clamp_i32(x: i64) -> Limited
+pub(crate) fn clamp_i32(x: i64) -> Changed<i32>
     ensures { (result.value ≡ clamp x) × (result.changed ≡ clamp_changes x) }
 {
     limit(x, -2147483648, 2147483647)

@@ -13,18 +13,16 @@ use Rattle.lists.specs.Below.{all_below}
 use Rattle.lists.proofs.Booleans.{both, never}
 use Rattle.lists.proofs.Choice.{pick-holds}
 use Rattle.lists.proofs.Below.{all-at}
-use Rattle.text.specs.declared.numbers.Number.{Number}
-use Rattle.text.specs.declared.numbers.Number.TheVariants.{Whole, Malformed}
-use Rattle.text.specs.declared.numbers.Magnitude.{Magnitude}
-use Rattle.text.specs.declared.numbers.Magnitude.TheVariants.{Digits, Other}
-use Rattle.line.specs.declared.ticket.Ticket.{Ticket}
-use Rattle.line.specs.declared.ticket.Ticket.TheVariants.{Spelled, NoTicket}
+use Rattle.std.specs.Prelude.{ℤ, Option, Some, None}
+use Rattle.std.proofs.Common.{cond}
+use Rattle.std.proofs.lemmas.List.Sums.{sum_by-cons}
+use Rattle.text.specs.Lines.{up_to}
 use Rattle.line.specs.declared.events.Event.{Event}
 use Rattle.line.specs.declared.events.Event.TheVariants.{Bad}
 use Rattle.line.specs.declared.events.Called.{Called}
 use Rattle.text.specs.Numbers.{magnitude, number_of, is_size, counted, is_whole}
 use Rattle.transmitters.specs.declared.Reading.{Reading}
-use Rattle.line.specs.Fields.{one_more, spaces, one_less, after_spaces, up_to_space, field}
+use Rattle.line.specs.Fields.{spaces, one_less, after_spaces, field}
 use Rattle.line.specs.Singles.{is_single, single_in}
 use Rattle.line.specs.Tickets.{ticket_of, is_ticket}
 use Rattle.line.specs.Events.{letter_of, box_of, reading_in, is_given, is_reading, all_readings, tick_called, give_up_called, delivery_called, store_called, return_called, commit_called, power_called, called_for, is_taken, ask_called, store_asked_called, two_called, word_called, called}
@@ -38,11 +36,10 @@ use Rattle.text.proofs.RoundTrip.{magnitude-back, printed-reads}
 
 module _ (b : ℕ) (bs : List ℕ) where
   space-count : eqb b 32 ≡ true → spaces (b ∷ bs) ≡ suc (spaces bs)
-  unfolding spaces one_more pick
-  space-count e = rw e
+  space-count e = sum_by-cons (λ x. cond (eqb x 32) 1 0) b bs ∙ rw e (omega arith)
 
   space-first : eqb b 32 ≡ true → field 0 (b ∷ bs) ≡ []
-  unfolding field after_spaces up_to_space pick
+  unfolding field after_spaces up_to pick
   space-first e = rw e
 
   space-next : (j : ℕ) → eqb b 32 ≡ true → field (suc j) (b ∷ bs) ≡ field j bs
@@ -50,11 +47,10 @@ module _ (b : ℕ) (bs : List ℕ) where
   space-next j e = let p : suc j - 1 ≡ j = omega arith in rw (e, p)
 
   other-count : eqb b 32 ≡ false → spaces (b ∷ bs) ≡ spaces bs
-  unfolding spaces one_more pick
-  other-count e = rw e
+  other-count e = sum_by-cons (λ x. cond (eqb x 32) 1 0) b bs ∙ rw e (omega arith)
 
   other-first : eqb b 32 ≡ false → field 0 (b ∷ bs) ≡ b ∷ field 0 bs
-  unfolding field after_spaces up_to_space pick
+  unfolding field after_spaces up_to pick
   other-first e = rw (e, after-found bs)
 
   other-next : (j : ℕ) → eqb b 32 ≡ false → field (suc j) (b ∷ bs) ≡ field (suc j) bs
@@ -96,7 +92,6 @@ pub record Behind (line : List ℕ) : Type 0 where
   pub fields : (j : ℕ) → field (suc j) line ≡ field j rest
 
 behind : (line : List ℕ) → 0 < spaces line → Behind line
-unfolding spaces
 behind [] h = absurd (omega arith)
 behind (b ∷ bs) h = by (eqb b 32) refl (behind bs)
   where
@@ -119,7 +114,7 @@ behind (b ∷ bs) h = by (eqb b 32) refl (behind bs)
         }
 
 alone : (line : List ℕ) → spaces line ≡ 0 → length line ≡ length (field 0 line)
-unfolding spaces field after_spaces up_to_space
+unfolding field after_spaces up_to
 alone [] h = refl
 alone (b ∷ bs) h = by (eqb b 32) refl (alone bs)
   where
@@ -147,25 +142,22 @@ three line h =
 
 -- ---- what a field may hold
 
-pub number-length : (word : List ℕ) (n : Number) → number_of word ≡ n → is_whole n ≡ true → length word ≤ 11
-unfolding is_whole
-number-length word (Whole z) e w = omega (arith, ap length (printed-reads word z e), signed-length z)
-number-length word Malformed e w = never w
+pub number-length : (word : List ℕ) (n : Option ℤ) → number_of word ≡ n → is_whole n ≡ true → length word ≤ 11
+number-length word (Some z) e w = omega (arith, ap length (printed-reads word z e), signed-length z)
+number-length word None e w = never w
 
-counted-length : (word : List ℕ) (n : Number) → number_of word ≡ n → 0 < counted n → length word ≤ 11
-unfolding counted is_whole
-counted-length word (Whole z) e w = number-length word (Whole z) e refl
-counted-length word Malformed e w = absurd (omega arith)
+counted-length : (word : List ℕ) (n : Option ℤ) → number_of word ≡ n → 0 < counted n → length word ≤ 11
+unfolding counted
+counted-length word (Some z) e w = number-length word (Some z) e refl
+counted-length word None e w = absurd (omega arith)
 
-size-length : (word : List ℕ) (k : Magnitude) → magnitude word ≡ k → is_size k ≡ true → length word ≤ 11
-unfolding is_size
-size-length word (Digits n) e w = omega (arith, ap length (magnitude-back word n e), decimal-length n)
-size-length word Other e w = never w
+size-length : (word : List ℕ) (k : Option ℕ) → magnitude word ≡ k → is_size k ≡ true → length word ≤ 11
+size-length word (Some n) e w = omega (arith, ap length (magnitude-back word n e), decimal-length n)
+size-length word None e w = never w
 
-committed-length : (word : List ℕ) (t : Ticket) → ticket_of word ≡ t → is_ticket t ≡ true → length word ≤ 20
-unfolding is_ticket
-committed-length word (Spelled n) e w = ticket-length word n e
-committed-length word NoTicket e w = never w
+committed-length : (word : List ℕ) (t : Option ℕ) → ticket_of word ≡ t → is_ticket t ≡ true → length word ≤ 20
+committed-length word (Some n) e w = ticket-length word n e
+committed-length word None e w = never w
 
 letter-alone : (word : List ℕ) → 0 < letter_of word → length word ≡ 1
 unfolding letter_of pick

@@ -1,22 +1,21 @@
 -- Laws of a row of readings that is read field by field, and place by place. Assumes nothing.
 use mathlib.Core.Path.{◌≡◌, refl, sym, ap, ◌∙◌}
-use mathlib.Core.Bool.{Bool, true, ◌&&◌}
-use mathlib.Core.List.{List, [], ◌∷◌}
-use Prim.Native.Nat.{ℕ, suc, ◌+◌, ◌≤◌}
+use mathlib.Core.Bool.{Bool, true, false}
+use mathlib.Core.List.{List}
+use Prim.Native.Nat.{ℕ, suc, ◌+◌, ◌≤◌, ◌<◌}
 use native.Mathlib.Omega.{arith}
 use native.Mathlib.Decide.{dec_le}
-use lib.IntN.{pos}
-use lib.ListN.{length, get_or, set}
+use lib.ListN.{length, set, replicate}
 use lib.Seq.{set_out}
 use Rattle.lists.specs.Places.{filled}
-use Rattle.lists.proofs.Places.{filled_none, filled_more, filled-most, filled-length, four-places}
-use Rattle.lists.proofs.Below.{all_none, all-next}
+use Rattle.lists.specs.Below.{all_below}
+use Rattle.lists.proofs.Booleans.{never}
+use Rattle.lists.proofs.Places.{filled_none, filled_more, filled-most, filled-length}
+use Rattle.lists.proofs.Below.{all_none, all-next, all-at}
 use Rattle.transmitters.specs.declared.Reading.{Reading}
-use Rattle.transmitters.specs.declared.Reading.TheVariants.{Count, Missing}
-use Rattle.line.specs.declared.events.Place.{Place}
-use Rattle.line.specs.declared.events.Row.{Row}
+use Rattle.transmitters.specs.declared.Reading.TheVariants.{Missing}
 use Rattle.line.specs.Fields.{field}
-use Rattle.line.specs.Events.{reading_in, is_reading, all_readings, place, readings_of, row_of, read_with, missing_row}
+use Rattle.line.specs.Events.{reading_in, is_reading, all_readings, row_of}
 
 -- one reading more; after the places there is none
 set_more : {A : Type 0} (blank : A) (width j : ℕ) (f : ℕ → A) → set (filled blank width j f) j (f j) ≡ filled blank width (j + 1) f
@@ -31,30 +30,33 @@ set_more blank width j f = by (dec_le (suc j) width)
         ∙ filled-most blank width (j + 1) width f (λ m. omega arith) (λ m. refl)
 
 module _ (of_rig : Bool) (line : List ℕ) where
-  pub row-none : missing_row ≡ row_of of_rig 0 line
+  pub row-none : replicate 4 Missing ≡ row_of of_rig 0 line
   unfolding row_of
-  row-none = sym (filled_none (place Missing) 4 _)
+  row-none = sym (filled_none Missing 4 _)
 
   pub readings-none : true ≡ all_readings of_rig 0 line
   unfolding all_readings
   readings-none = sym (all_none _)
 
-  pub row_more : (r : Row) (j : ℕ) → r.readings ≡ row_of of_rig j line → (read_with of_rig r j (field (j + 2) line)).readings ≡ row_of of_rig (j + 1) line
-  unfolding row_of read_with
-  row_more r j e =
-      ap (λ (y : List Place). set y j (place (reading_in of_rig (field (j + 2) line)))) e
-      ∙ set_more (place Missing) 4 j (λ i. place (reading_in of_rig (field (i + 2) line)))
+  pub row-length : (row : List Reading) (j : ℕ) → row ≡ row_of of_rig j line → length row ≡ 4
+  unfolding row_of
+  row-length row j e = ap length e ∙ filled-length Missing 4 j _
 
-  pub readings-more : (r : Row) (j : ℕ) → r.all ≡ all_readings of_rig j line
-      → (read_with of_rig r j (field (j + 2) line)).all ≡ all_readings of_rig (j + 1) line
-  unfolding all_readings read_with
-  readings-more r j e =
-      ap (λ (b : Bool). b && is_reading of_rig (field (j + 2) line)) e ∙ sym (all-next (λ i. is_reading of_rig (field (i + 2) line)) j)
+  pub row_more : (row : List Reading) (j : ℕ) → row ≡ row_of of_rig j line
+      → set row j (reading_in of_rig (field (j + 2) line)) ≡ row_of of_rig (j + 1) line
+  unfolding row_of
+  row_more row j e =
+      ap (λ (y : List Reading). set y j (reading_in of_rig (field (j + 2) line))) e ∙ set_more Missing 4 j (λ i. reading_in of_rig (field (i + 2) line))
 
--- the readings in four places, as the code takes them
-abbrev at : List Place → ℕ → Reading
-at row i = (get_or row i (place (Count (pos 0)))).reading
+  pub readings-more : (j : ℕ) → true ≡ all_readings of_rig j line → is_reading of_rig (field (j + 2) line) ≡ true → true ≡ all_readings of_rig (j + 1) line
+  unfolding all_readings
+  readings-more j e h = sym (all-next (λ i. is_reading of_rig (field (i + 2) line)) j ∙ rw (sym e, h))
 
-pub four-readings : (row : List Place) → length row ≡ 4 → at row 0 ∷ at row 1 ∷ at row 2 ∷ at row 3 ∷ [] ≡ readings_of row
-unfolding readings_of
-four-readings row h = sym (ap readings_of (four-places (place (Count (pos 0))) row h))
+  -- a field that is no reading
+  pub not_all : (m j : ℕ) → j < m → is_reading of_rig (field (j + 2) line) ≡ false → all_readings of_rig m line ≡ false
+  unfolding all_readings
+  not_all m j l h = by (all_below m (λ i. is_reading of_rig (field (i + 2) line))) refl
+    where
+      by : (t : Bool) → all_below m (λ i. is_reading of_rig (field (i + 2) line)) ≡ t → all_below m (λ i. is_reading of_rig (field (i + 2) line)) ≡ false
+      by true e = never (sym h ∙ all-at (λ i. is_reading of_rig (field (i + 2) line)) m j e l)
+      by false e = e

@@ -1,8 +1,8 @@
 -- Laws of singles: what a hexadecimal digit is, eight of them one after the other, and that these have 32 bits. Assumes nothing.
-use mathlib.Core.Path.{◌≡◌, refl, ap, ◌∙◌}
+use mathlib.Core.Path.{◌≡◌, refl, sym, ap, ◌∙◌}
 use mathlib.Core.Bool.{Bool, true, false, ◌&&◌, ◌||◌}
 use mathlib.Core.List.{List}
-use Prim.Native.Nat.{ℕ, ◌+◌, ◌*◌, ◌-◌, ◌^◌, ◌≤◌, ◌<◌}
+use Prim.Native.Nat.{ℕ, suc, ◌+◌, ◌*◌, ◌-◌, ◌^◌, ◌≤◌, ◌<◌}
 use native.Mathlib.Nat.{zero-lt-suc, pow-suc, pow-le-pow_right}
 use native.Mathlib.Omega.{arith}
 use native.Mathlib.Numerals.{add-one}
@@ -16,8 +16,9 @@ use Rattle.lists.proofs.Booleans.{both, second-fails}
 use Rattle.lists.proofs.Choice.{pick_true, pick-false}
 use Rattle.lists.proofs.Parts.{drop-beyond}
 use Rattle.text.specs.Numbers.{is_digit}
-use Rattle.text.proofs.NumberLaws.{digit-range}
-use Rattle.transmitters.specs.declared.Reading.{Reading}
+use Rattle.std.specs.Prelude.{Option, Some, None}
+use Rattle.std.proofs.lemmas.Option.{none-some, same_Some}
+use Rattle.text.proofs.NumberLaws.{digit-range, pick-some, pick-none}
 use Rattle.transmitters.specs.declared.Reading.TheVariants.{Newtons, Missing}
 use Rattle.line.specs.Singles.{is_hex, hex_digit, all_hex, hex_from, is_single, bits_of, single_in}
 
@@ -27,6 +28,7 @@ use Rattle.line.specs.Singles.{is_hex, hex_digit, all_hex, hex_from, is_single, 
 pub record Hex (b : ℕ) : Type 0 where
   pub decimal : b ≤ 57 → (48 ≤ b) × (hex_digit b ≡ b - 48)
   pub letter : 57 < b → (97 ≤ b) × (hex_digit b ≡ b - 87)
+  pub high : b ≤ 102
   pub below : hex_digit b < 16
 
 pub hex : (b : ℕ) → is_hex b ≡ true → Hex b
@@ -37,13 +39,13 @@ hex b h = by (is_digit b) refl h
     by true e h =
         let d = digit-range b e in
         let v : hex_digit b ≡ b - 48 = pick_true _ _ _ e in
-        record { decimal = λ _. (d.0, v); letter = λ l. absurd (omega arith); below = omega arith }
+        record { decimal = λ _. (d.0, v); letter = λ l. absurd (omega arith); high = omega arith; below = omega arith }
     by false e h =
         let p = both (leb 97 b) (leb b 102) (rw e at h) in
         let low = leb-true 97 b p.0 in
         let high = leb-true b 102 p.1 in
         let v : hex_digit b ≡ b - 87 = pick-false _ _ _ e in
-        record { decimal = λ l. absurd (omega arith); letter = λ _. (low, v); below = omega arith }
+        record { decimal = λ l. absurd (omega arith); letter = λ _. (low, v); high = high; below = omega arith }
 
 -- ---- powers
 
@@ -57,9 +59,44 @@ seven-digits k high h l = let p : 16 ^ k ≤ 16 ^ 7 = pow-le-pow_right (zero-lt-
 
 -- ---- a field
 
--- what digits give after those that spell `high`
-unfoldable pub read_from : ℕ → List ℕ → Reading
-read_from high digits = pick (all_hex digits) (Newtons (of_bits binary32 (hex_from high digits))) Missing
+-- the bits that digits spell after those that spell `high`
+unfoldable pub spelled : ℕ → List ℕ → Option ℕ
+spelled high digits = pick (all_hex digits) (Some (hex_from high digits)) None
+
+module _ (digits : List ℕ) (high i : ℕ) where
+  -- a turn of the loop that reads the digits
+  spelled-next : i < length digits → spelled high (drop i digits)
+      ≡ pick (is_hex (get_or digits i 0)) (spelled (high * 16 + hex_digit (get_or digits i 0)) (drop (i + 1) digits)) None
+  unfolding spelled all_hex hex_from pick
+  spelled-next h = rw (add-one, drop-cons digits i 0 h) (by (is_hex (get_or digits i 0)))
+    where
+      by : (t : Bool)
+          → pick (t && all_hex (drop (suc i) digits)) (Some (hex_from (high * 16 + hex_digit (get_or digits i 0)) (drop (suc i) digits))) None
+          ≡ pick t (pick (all_hex (drop (suc i) digits)) (Some (hex_from (high * 16 + hex_digit (get_or digits i 0)) (drop (suc i) digits))) None) None
+      by true = refl
+      by false = refl
+
+  pub spelled-more : (d : ℕ) → i < length digits → pick (is_hex (get_or digits i 0)) (Some (hex_digit (get_or digits i 0))) None ≡ Some d
+      → spelled high (drop i digits) ≡ spelled (high * 16 + d) (drop (i + 1) digits)
+  spelled-more d h e =
+      spelled-next h ∙ pick-some (is_hex (get_or digits i 0)) _ d (λ (k : ℕ). spelled (high * 16 + k) (drop (i + 1) digits)) e
+
+  pub spelled-stops : i < length digits → pick (is_hex (get_or digits i 0)) (Some (hex_digit (get_or digits i 0))) None ≡ None
+      → spelled high (drop i digits) ≡ None
+  spelled-stops h e = spelled-next h ∙ pick-none (is_hex (get_or digits i 0)) _ _ e
+
+  pub spelled-ends : length digits ≤ i → spelled high (drop i digits) ≡ Some high
+  unfolding spelled all_hex hex_from pick
+  spelled-ends h = rw (drop-beyond digits i h)
+
+-- a digit has a value below 16
+pub digit-below : (b d : ℕ) → pick (is_hex b) (Some (hex_digit b)) None ≡ Some d → d < 16
+unfolding pick
+digit-below b d e = by (is_hex b) refl e
+  where
+    by : (t : Bool) → is_hex b ≡ t → pick t (Some (hex_digit b)) None ≡ Some d → d < 16
+    by true h e = let s : hex_digit b ≡ d = same_Some _ _ e in omega (arith, (hex b h).below)
+    by false h e = absurd (none-some d e)
 
 module _ (word : List ℕ) where
   pub not_nine : (length word ≡ 9 → ⊥) → single_in word ≡ Missing
@@ -70,23 +107,26 @@ module _ (word : List ℕ) where
   unfolding single_in is_single
   not_f n = pick-false _ _ _ (second-fails (eqb (length word) 9) _ (rw (ne_eqb (get_or word 0 0) 102 n)))
 
-  pub read_first : length word ≡ 9 → get_or word 0 0 ≡ 102 → single_in word ≡ read_from 0 (drop 1 word)
-  unfolding single_in is_single bits_of read_from
-  read_first n f = rw (eq-eqb (length word) 9 n, eq-eqb (get_or word 0 0) 102 f)
+  -- `f` and what follows it
+  pub single-given : (bits : ℕ) → length word ≡ 9 → get_or word 0 0 ≡ 102 → pick (all_hex (drop 1 word)) (Some (hex_from 0 (drop 1 word))) None ≡ Some bits
+      → Newtons (of_bits binary32 bits) ≡ single_in word
+  unfolding single_in is_single bits_of pick
+  single-given bits n f e = rw (eq-eqb (length word) 9 n, eq-eqb (get_or word 0 0) 102 f) (by (all_hex (drop 1 word)) e)
+    where
+      by : (t : Bool) → pick t (Some (hex_from 0 (drop 1 word))) None ≡ Some bits
+          → Newtons (of_bits binary32 bits) ≡ pick t (Newtons (of_bits binary32 (hex_from 0 (drop 1 word)))) Missing
+      by true e = ap (λ (k : ℕ). Newtons (of_bits binary32 k)) (sym (same_Some _ _ e))
+      by false e = absurd (none-some bits e)
 
-  -- a turn of the loop that reads the digits
-  module _ (high i : ℕ) (h : i < length word) where
-    pub read_more : is_hex (get_or word i 0) ≡ true → read_from high (drop i word) ≡ read_from (high * 16 + hex_digit (get_or word i 0)) (drop (i + 1) word)
-    unfolding read_from all_hex hex_from
-    read_more e = rw (add-one, drop-cons word i 0 h, e)
-
-    pub read-stops : is_hex (get_or word i 0) ≡ false → read_from high (drop i word) ≡ Missing
-    unfolding read_from all_hex pick
-    read-stops e = rw (drop-cons word i 0 h, e)
-
-  pub read-ends : (high i : ℕ) → length word ≤ i → read_from high (drop i word) ≡ Newtons (of_bits binary32 high)
-  unfolding read_from all_hex hex_from pick
-  read-ends high i h = rw (drop-beyond word i h)
+  pub single-missing : length word ≡ 9 → get_or word 0 0 ≡ 102 → pick (all_hex (drop 1 word)) (Some (hex_from 0 (drop 1 word))) None ≡ None
+      → Missing ≡ single_in word
+  unfolding single_in is_single bits_of pick
+  single-missing n f e = rw (eq-eqb (length word) 9 n, eq-eqb (get_or word 0 0) 102 f) (by (all_hex (drop 1 word)) e)
+    where
+      by : (t : Bool) → pick t (Some (hex_from 0 (drop 1 word))) None ≡ None
+          → Missing ≡ pick t (Newtons (of_bits binary32 (hex_from 0 (drop 1 word)))) Missing
+      by true e = absurd (none-some _ (sym e))
+      by false e = refl
 
 -- a single has nine bytes
 pub single-length : (word : List ℕ) → is_single word ≡ true → length word ≡ 9

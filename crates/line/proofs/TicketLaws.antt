@@ -1,75 +1,35 @@
--- Laws of tickets: digits one by one, and how many there are. Assumes nothing.
+-- Laws of tickets: how many digits there are. Assumes nothing.
 use mathlib.Core.Path.{◌≡◌, refl, sym, ◌∙◌}
 use mathlib.Core.Bool.{Bool, true, false, not, ◌||◌}
 use mathlib.Core.List.{List, [], ◌∷◌}
-use Prim.Native.Nat.{ℕ, suc, ◌+◌, ◌*◌, ◌-◌, ◌/◌, ◌^◌, ◌≤◌, ◌<◌}
+use Prim.Native.Nat.{ℕ, suc, ◌+◌, ◌*◌, ◌-◌, ◌^◌, ◌≤◌, ◌<◌}
 use native.Mathlib.Omega.{arith}
 use native.Mathlib.Nat.{add-mul, mul_assoc, mul_comm, le-mul_of_pos_right, pow-suc, pow-le-pow_right, zero-lt-suc}
-use native.Mathlib.Numerals.{add-one}
 use native.Mathlib.Decide.{dec_le}
-use lib.Dec.{leb, ltb, eqb}
-use lib.ListN.{length, get_or, drop}
-use lib.Seq.{drop-cons, drop-length}
-use borrow.Author.Tests.{le-leb, lt-leb, leb-true, eqb-true, eqb-false}
+use lib.Dec.{ltb, eqb}
+use lib.ListN.{length}
+use borrow.Author.Tests.{eqb-true, eqb-false}
+use Rattle.std.specs.Prelude.{Some, None}
+use Rattle.std.proofs.lemmas.Option.{none-some}
 use Rattle.lists.specs.Choice.{pick}
 use Rattle.lists.proofs.Booleans.{both}
-use Rattle.text.specs.Numbers.{is_digit, well_begun}
-use Rattle.text.proofs.NumberLaws.{digit-range}
-use Rattle.line.specs.declared.ticket.Ticket.TheVariants.{Spelled, NoTicket}
-use Rattle.line.specs.Tickets.{largest, goes_on, spelled, ticket_of}
-
--- ---- one digit
-
--- a digit has room after n, by a division that fits 64 bits
-pub room : (n b : ℕ) → b ≤ 57 → leb n ((18446744073709551615 - (b - 48)) / 10) ≡ leb (10 * n + (b - 48)) largest
-room n b h = by (dec_le (10 * n + (b - 48)) largest)
-  where
-    by : Dec (10 * n + (b - 48) ≤ largest) → leb n ((18446744073709551615 - (b - 48)) / 10) ≡ leb (10 * n + (b - 48)) largest
-    by (yes l) = le-leb n ((18446744073709551615 - (b - 48)) / 10) (omega (arith, h)) ∙ sym (le-leb (10 * n + (b - 48)) largest l)
-    by (no l) =
-        let more : largest < 10 * n + (b - 48) = omega (arith, l) in
-        lt-leb n ((18446744073709551615 - (b - 48)) / 10) (omega (arith, h)) ∙ sym (lt-leb (10 * n + (b - 48)) largest more)
-
--- what a digit that goes on tells
-pub record Goes (n b : ℕ) : Type 0 where
-  pub low : 48 ≤ b
-  pub small : 10 * n + (b - 48) ≤ largest
-
-pub goes : (n b : ℕ) → goes_on n b ≡ true → Goes n b
-unfolding goes_on
-goes n b e =
-    let p = both (is_digit b) (leb (10 * n + (b - 48)) largest) e in
-    record { low = (digit-range b p.0).0; small = leb-true _ _ p.1 }
-
--- ---- a turn of the loop that spells
-
-pub spelled-more : (n : ℕ) (digits : List ℕ) (i : ℕ) → i < length digits → goes_on n (get_or digits i 0) ≡ true
-    → spelled n (drop i digits) ≡ spelled (10 * n + (get_or digits i 0 - 48)) (drop (i + 1) digits)
-unfolding spelled pick
-spelled-more n digits i h e = rw (add-one, drop-cons digits i 0 h, e)
-
-pub spelled-stops : (n : ℕ) (digits : List ℕ) (i : ℕ) → i < length digits → goes_on n (get_or digits i 0) ≡ false
-    → spelled n (drop i digits) ≡ NoTicket
-unfolding spelled pick
-spelled-stops n digits i h e = rw (drop-cons digits i 0 h, e)
-
-pub spelled-ends : (n : ℕ) (digits : List ℕ) (i : ℕ) → i ≡ length digits → spelled n (drop i digits) ≡ Spelled n
-unfolding spelled pick
-spelled-ends n digits i e = rw (e, drop-length)
+use Rattle.text.specs.Numbers.{goes_on, spelled, well_begun, unsigned}
+use Rattle.text.proofs.NumberLaws.{Goes, goes}
+use Rattle.line.specs.Tickets.{largest, ticket_of}
 
 -- ---- how many digits there are
 
-none : (v : ℕ) {X : Type 0} → NoTicket ≡ Spelled v → X
-none v e = absurd (let z : ◌≡◌ {A = ℕ} 0 1 = cc in omega arith)
+none : (v : ℕ) {X : Type 0} → None ≡ Some v → X
+none v e = absurd (none-some v e)
 
 -- what digits after n spell: the first of them goes on
-next : (n b : ℕ) (bs : List ℕ) (v : ℕ) → spelled n (b ∷ bs) ≡ Spelled v → Goes n b × (spelled (10 * n + (b - 48)) bs ≡ Spelled v)
+next : (n b : ℕ) (bs : List ℕ) (v : ℕ) → spelled largest n (b ∷ bs) ≡ Some v → Goes largest n b × (spelled largest (10 * n + (b - 48)) bs ≡ Some v)
 unfolding spelled pick
-next n b bs v e = by (goes_on n b) refl e
+next n b bs v e = by (goes_on largest n b) refl e
   where
-    by : (t : Bool) → goes_on n b ≡ t → pick (goes_on n b) (spelled (10 * n + (b - 48)) bs) NoTicket ≡ Spelled v
-        → Goes n b × (spelled (10 * n + (b - 48)) bs ≡ Spelled v)
-    by true g e = (goes n b g, rw g at e)
+    by : (t : Bool) → goes_on largest n b ≡ t → pick (goes_on largest n b) (spelled largest (10 * n + (b - 48)) bs) None ≡ Some v
+        → Goes largest n b × (spelled largest (10 * n + (b - 48)) bs ≡ Some v)
+    by true g e = (goes largest n b g, rw g at e)
     by false g e = none v (rw g at e)
 
 tens : (n d k : ℕ) → n * (k * 10) ≤ (10 * n + d) * k
@@ -79,7 +39,7 @@ tens n d k =
     omega arith
 
 -- each digit after n makes it ten times as large
-spelled-large : (bs : List ℕ) (n v : ℕ) → n ≤ largest → spelled n bs ≡ Spelled v → (n * 10 ^ length bs ≤ v) × (v ≤ largest)
+spelled-large : (bs : List ℕ) (n v : ℕ) → n ≤ largest → spelled largest n bs ≡ Some v → (n * 10 ^ length bs ≤ v) × (v ≤ largest)
 unfolding spelled
 spelled-large [] n v h e = let z : n ≡ v = cc in (omega arith, omega arith)
 spelled-large (b ∷ bs) n v h e =
@@ -91,7 +51,7 @@ spelled-large (b ∷ bs) n v h e =
     (rw p (omega arith), r.1)
 
 -- digits with no needless zero
-begun-length : (b : ℕ) (bs : List ℕ) (v : ℕ) → 48 < b → spelled 0 (b ∷ bs) ≡ Spelled v → length bs < 20
+begun-length : (b : ℕ) (bs : List ℕ) (v : ℕ) → 48 < b → spelled largest 0 (b ∷ bs) ≡ Some v → length bs < 20
 begun-length b bs v s e =
     let x = next 0 b bs v e in
     let z : 10 * 0 + (b - 48) ≡ b - 48 = omega arith in
@@ -105,7 +65,7 @@ begun-length b bs v s e =
         let q : 10 ^ length bs ≤ (b - 48) * 10 ^ length bs = rw mul_comm (le-mul_of_pos_right (10 ^ length bs) (omega (arith, s))) in
         absurd (omega arith)
 
-begun-short : (b : ℕ) (bs : List ℕ) (v : ℕ) → well_begun (b ∷ bs) ≡ true → spelled 0 (b ∷ bs) ≡ Spelled v → length (b ∷ bs) ≤ 20
+begun-short : (b : ℕ) (bs : List ℕ) (v : ℕ) → well_begun (b ∷ bs) ≡ true → spelled largest 0 (b ∷ bs) ≡ Some v → length (b ∷ bs) ≤ 20
 unfolding well_begun
 begun-short b bs v w e = by (eqb b 48) refl (both (ltb 0 (suc (length bs))) _ w).1
   where
@@ -115,11 +75,11 @@ begun-short b bs v w e = by (eqb b 48) refl (both (ltb 0 (suc (length bs))) _ w)
         let low = (next 0 b bs v e).0.low in
         omega (arith, begun-length b bs v (omega (arith, eqb-false b 48 z)) e)
 
-pub ticket-length : (word : List ℕ) (v : ℕ) → ticket_of word ≡ Spelled v → length word ≤ 20
-unfolding ticket_of pick
+pub ticket-length : (word : List ℕ) (v : ℕ) → ticket_of word ≡ Some v → length word ≤ 20
+unfolding ticket_of unsigned pick
 ticket-length [] v e = omega arith
 ticket-length (b ∷ bs) v e = by (well_begun (b ∷ bs)) refl e
   where
-    by : (t : Bool) → well_begun (b ∷ bs) ≡ t → pick (well_begun (b ∷ bs)) (spelled 0 (b ∷ bs)) NoTicket ≡ Spelled v → length (b ∷ bs) ≤ 20
+    by : (t : Bool) → well_begun (b ∷ bs) ≡ t → pick (well_begun (b ∷ bs)) (spelled largest 0 (b ∷ bs)) None ≡ Some v → length (b ∷ bs) ≤ 20
     by true w e = begun-short b bs v w (rw w at e)
     by false w e = none v (rw w at e)

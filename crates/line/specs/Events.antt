@@ -3,20 +3,16 @@
 -- `bench`: "`S r`: the record of box r's replica is stored. `R r k`: box r comes back from the record that it stored last, with k missed periods (k decimal,
 -- 0 to 4294967295)"; "`A` before an event, as `AT 1 100`, `AG 2`, `AD 2 1`: the event is asked"; "`C r t`: box r commits ticket t (decimal, 0 to
 -- 18446744073709551615)"; "`SA r`: the record that box r's latest ask gave is stored". The letters S, R, A and C are the bytes 83, 82, 65 and 67.
-use Rattle.std.specs.Prelude.{ℕ, ◌+◌, Bool, true, false, ◌&&◌, ◌||◌, List, map, length, get_or, set, replicate, eqb, leb, ltb}
+use Rattle.std.specs.Prelude.{ℕ, ◌+◌, Bool, true, false, ◌&&◌, ◌||◌, List, Option, length, get_or, replicate, eqb, leb, ltb}
 use Rattle.lists.specs.Choice.{pick}
 use Rattle.lists.specs.Below.{all_below}
 use Rattle.lists.specs.Places.{filled}
-use Rattle.text.specs.declared.numbers.Magnitude.{Magnitude}
 use Rattle.text.specs.Numbers.{magnitude, number_of, size_in, is_size, counted, value_in, is_whole}
 use Rattle.transmitters.specs.declared.Reading.{Reading}
 use Rattle.transmitters.specs.declared.Reading.TheVariants.{Count, Newtons, Missing}
 use Rattle.line.specs.declared.events.Event.{Event}
 use Rattle.line.specs.declared.events.Event.TheVariants.{Tick, GiveUp, Deliver, Store, Return, Commit, StoreAsked, Bad}
-use Rattle.line.specs.declared.ticket.Ticket.{Ticket}
-use Rattle.line.specs.declared.events.Place.{Place}
 use Rattle.line.specs.declared.events.Called.{Called}
-use Rattle.line.specs.declared.events.Row.{Row}
 use Rattle.line.specs.Fields.{spaces, field}
 use Rattle.line.specs.Singles.{single_in}
 use Rattle.line.specs.Tickets.{ticket_of, is_ticket, number_in}
@@ -48,28 +44,13 @@ is_reading of_rig word = is_given (reading_in of_rig word) || eqb (letter_of wor
 unfoldable pub all_readings : (of_rig : Bool) → ℕ → List ℕ → Bool
 all_readings of_rig m line = all_below m (λ j. is_reading of_rig (field (j + 2) line))
 
--- a place of a row, which holds a reading
-abbrev pub place : Reading → Place
-place reading = record { reading = reading }
-
--- the readings in the places of a row
-unfoldable pub readings_of : List Place → List Reading
-readings_of row = map (λ (p : Place). p.reading) row
-
 -- the readings of a tick's line; those beyond m are missing
-unfoldable pub row_of : (of_rig : Bool) → ℕ → List ℕ → List Place
-row_of of_rig m line = filled (place Missing) 4 m (λ j. place (reading_in of_rig (field (j + 2) line)))
-
--- the readings so far, and whether each field was one, with the field that is reading j
-unfoldable pub read_with : (of_rig : Bool) → Row → ℕ → List ℕ → Row
-read_with of_rig row j word = record {
-  readings = set row.readings j (place (reading_in of_rig word));
-  all = row.all && is_reading of_rig word;
-}
+unfoldable pub row_of : (of_rig : Bool) → ℕ → List ℕ → List Reading
+row_of of_rig m line = filled Missing 4 m (λ j. reading_in of_rig (field (j + 2) line))
 
 -- four readings that are missing
-abbrev pub missing_row : List Place
-missing_row = replicate 4 (place Missing)
+abbrev pub missing_row : List Reading
+missing_row = replicate 4 Missing
 
 -- a line that is no tick has no reading; it asks nothing
 abbrev pub calls : Event → Called
@@ -93,11 +74,11 @@ unfoldable pub store_called : (at count : ℕ) → Called
 store_called at count = calls (pick (eqb count 1) (Store at) Bad)
 
 -- `R r k`
-unfoldable pub return_called : (at count : ℕ) → Magnitude → Called
+unfoldable pub return_called : (at count : ℕ) → Option ℕ → Called
 return_called at count k = calls (pick (eqb count 2 && is_size k) (Return at (size_in k)) Bad)
 
 -- `C r t`
-unfoldable pub commit_called : (at count : ℕ) → Ticket → Called
+unfoldable pub commit_called : (at count : ℕ) → Option ℕ → Called
 commit_called at count t = calls (pick (eqb count 2 && is_ticket t) (Commit at (number_in t)) Bad)
 
 -- what only a line of `rig` calls for

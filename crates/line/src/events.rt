@@ -1,17 +1,17 @@
 // What a line of a script calls for. Each field is looked up once, and each number read once.
-ghost use Rattle.std.specs.Prelude.{◌≡◌, ◌&&◌, ◌||◌, ◌+◌, ◌≤◌, eqb, set};
-ghost use Rattle.line.specs.Events.{letter_of, box_of, reading_in, is_given, all_readings, place, readings_of, row_of, read_with, missing_row, calls as Events·calls, tick_called, give_up_called, delivery_called, store_called, return_called, commit_called, power_called, called_for, is_taken, ask_called, store_asked_called, two_called, word_called, called};
+ghost use Rattle.std.specs.Prelude.{◌≡◌, ◌&&◌, ◌||◌, ◌+◌, ◌≤◌, Some, None, eqb};
+ghost use Rattle.lists.specs.Choice.{pick};
+ghost use Rattle.line.specs.Events.{letter_of, box_of, reading_in, is_given, all_readings, row_of, missing_row, calls as Events·calls, tick_called, give_up_called, delivery_called, store_called, return_called, commit_called, power_called, called_for, is_taken, ask_called, store_asked_called, two_called, word_called, called};
 
 use crate::fields::{count_spaces, field};
 use crate::singles::single_in;
-use crate::ticket::{Ticket, is_ticket, number_of, ticket_in};
-use text::numbers::{
-    Magnitude, count_of, is_size, is_whole, number_in, read_magnitude, size_of, value_of,
-};
+use crate::ticket::ticket_in;
+use text::numbers::{count_of, number_in, read_magnitude};
 use transmitters::Reading;
 
 // A tick at a box; a view given up by a box; the frame that a line sent, delivered to a box; the record of a box stored; a box that comes back, with so
-// many missed periods; a ticket that a box commits; the record that the latest ask of a box gave, stored.
+// many missed periods; a ticket that a box commits; the record that the latest ask of a box gave, stored; and a line that is none of the format, which is
+// printed too.
 #[derive(Clone, Copy)]
 pub enum Event {
     Tick(u8),
@@ -24,25 +24,12 @@ pub enum Event {
     Bad,
 }
 
-// A place of a row, since the prover covers no field that is an array of enums.
-#[derive(Clone, Copy)]
-pub struct Place {
-    pub reading: Reading,
-}
-
-// What a line calls for: an event, whether it is asked only, and the readings of a tick.
+// What a line calls for: an event, whether it is asked only, and the readings of a tick. Asked or not, it is the same event.
 #[derive(Clone, Copy)]
 pub struct Called {
     pub event: Event,
     pub asks: bool,
-    pub readings: [Place; 4],
-}
-
-// The readings so far, and whether each field was one.
-#[derive(Clone, Copy)]
-struct Row {
-    readings: [Place; 4],
-    all: bool,
+    pub readings: [Reading; 4],
 }
 
 // The byte of a field that has one alone, else 0.
@@ -64,14 +51,14 @@ fn box_in(boxes: u8, word: &[u8]) -> u8
 fn reading_in(of_rig: bool, word: &[u8]) -> Reading
     ensures { result ≡ reading_in of_rig word.now }
 {
-    let n = number_in(word);
-    if is_whole(n) {
-        return Reading::Count(value_of(n));
+    match number_in(word) {
+        Some(n) => Reading::Count(n),
+        None => if of_rig {
+            single_in(word)
+        } else {
+            Reading::Missing
+        },
     }
-    if of_rig {
-        return single_in(word);
-    }
-    Reading::Missing
 }
 
 // Whether a field is a reading: there is this one in it, or it is a minus alone where the reading is absent.
@@ -79,93 +66,38 @@ fn is_reading(reading: Reading, word: &[u8]) -> bool
     ensures { result ≡ (is_given reading || eqb (letter_of word.now) 45) }
 {
     match reading {
-        Reading::Count(_) => true,
-        Reading::Newtons(_) => true,
-        Reading::Missing => letter(word) == 45,
+        Reading::Count(_) | Reading::Newtons(_) => true,
+        Reading::Missing => letter(word) == b'-',
     }
 }
 
-// The row with a reading in place j, of which there are four.
-fn with_place(row: [Place; 4], j: usize, reading: Reading) -> [Place; 4]
-    ensures { result ≡ set row j (place reading) }
-{
-    let mut places = row;
-    if j < 4 {
-        places[j] = Place { reading };
-        return places;
-    }
-    places
-}
-
-// The readings in the places of a row.
-pub fn readings_of(row: [Place; 4]) -> [Reading; 4]
-    ensures { result ≡ readings_of row }
-{
-    let a = row[0];
-    let b = row[1];
-    let c = row[2];
-    let d = row[3];
-    let first = a.reading;
-    let second = b.reading;
-    let third = c.reading;
-    let fourth = d.reading;
-    [first, second, third, fourth]
-}
-
-fn both(a: bool, b: bool) -> bool
-    ensures { result ≡ a && b }
-{
-    if a { b } else { false }
-}
-
-// The row with the reading of a field in place j.
-fn with_reading(of_rig: bool, row: Row, j: usize, word: &[u8]) -> Row
-    ensures { result ≡ read_with of_rig row j word.now }
-{
-    let reading = reading_in(of_rig, word);
-    let all = both(row.all, is_reading(reading, word));
-    let before = row.readings;
-    let readings = with_place(before, j, reading);
-    Row { readings, all }
-}
-
-// Four readings that are missing.
-fn missing() -> [Place; 4]
-    ensures { result ≡ missing_row }
-{
-    let none = Place {
-        reading: Reading::Missing,
-    };
-    [none, none, none, none]
-}
-
-// Fields 2 to m + 1 as readings.
-fn row_in(of_rig: bool, m: usize, line: &[u8]) -> Row
+// Fields 2 to m + 1 as readings; none where one of them is no reading.
+fn row_in(of_rig: bool, m: usize, line: &[u8]) -> Option<[Reading; 4]>
     requires { m ≤ 255 }
-    ensures { (result.readings ≡ row_of of_rig m line.now) × (result.all ≡ all_readings of_rig m line.now) }
+    ensures { result ≡ pick (all_readings of_rig m line.now) (Some (row_of of_rig m line.now)) None }
 {
-    let readings = missing();
-    let mut row = Row {
-        readings,
-        all: true,
-    };
-    let mut j = 0;
-    while j < m {
-        row = with_reading(of_rig, row, j, field(line, j + 2));
-        j += 1;
+    let mut row = [Reading::Missing; 4];
+    for j in 0..m {
+        let word = field(line, j + 2);
+        let reading = reading_in(of_rig, word);
+        if !is_reading(reading, word) {
+            return None;
+        }
+        if j < 4 {
+            row[j] = reading;
+        }
     }
-    row
+    Some(row)
 }
 
 // A line that is no tick has no reading. It asks nothing.
 fn calls(event: Event) -> Called
     ensures { result ≡ Events·calls event }
 {
-    let readings = missing();
     Called {
         event,
         asks: false,
-        readings,
+        readings: [Reading::Missing; 4],
     }
 }
 
@@ -176,180 +108,158 @@ fn tick(of_rig: bool, at: u8, m: usize, count: usize, line: &[u8]) -> Called
     if count != m + 1 {
         return calls(Event::Bad);
     }
-    let row = row_in(of_rig, m, line);
-    if !row.all {
-        return calls(Event::Bad);
-    }
-    let readings = row.readings;
-    let event = Event::Tick(at);
-    Called {
-        event,
-        asks: false,
-        readings,
+    match row_in(of_rig, m, line) {
+        Some(readings) => Called {
+            event: Event::Tick(at),
+            asks: false,
+            readings,
+        },
+        None => calls(Event::Bad),
     }
 }
 
+#[tactic(auto, unfolding(crate::specs::Events::give_up_called, lists::specs::Choice::pick))]
 fn give_up(at: u8, count: usize) -> Called
     ensures { result ≡ give_up_called at count }
 {
-    if count == 1 {
-        return calls(Event::GiveUp(at));
-    }
-    calls(Event::Bad)
+    calls(if count == 1 {
+        Event::GiveUp(at)
+    } else {
+        Event::Bad
+    })
 }
 
+#[tactic(auto, unfolding(crate::specs::Events::delivery_called, lists::specs::Choice::pick))]
 fn delivery(at: u8, count: usize, f: u32) -> Called
     ensures { result ≡ delivery_called at count f }
 {
-    if count != 2 {
-        return calls(Event::Bad);
-    }
-    if f == 0 {
-        return calls(Event::Bad);
-    }
-    calls(Event::Deliver(at, f))
+    calls(if count == 2 && 0 < f {
+        Event::Deliver(at, f)
+    } else {
+        Event::Bad
+    })
 }
 
+#[tactic(auto, unfolding(crate::specs::Events::store_called, lists::specs::Choice::pick))]
 fn store(at: u8, count: usize) -> Called
     ensures { result ≡ store_called at count }
 {
-    if count == 1 {
-        return calls(Event::Store(at));
-    }
-    calls(Event::Bad)
+    calls(if count == 1 {
+        Event::Store(at)
+    } else {
+        Event::Bad
+    })
 }
 
-fn come_back(at: u8, count: usize, missed: Magnitude) -> Called
+#[tactic(auto, unfolding(crate::specs::Events::return_called, lists::specs::Choice::pick))]
+fn come_back(at: u8, count: usize, missed: Option<u32>) -> Called
     ensures { result ≡ return_called at count missed }
 {
-    if count != 2 {
-        return calls(Event::Bad);
+    match missed {
+        Some(missed) if count == 2 => calls(Event::Return(at, missed)),
+        _ => calls(Event::Bad),
     }
-    if !is_size(missed) {
-        return calls(Event::Bad);
-    }
-    calls(Event::Return(at, size_of(missed)))
 }
 
-fn commit(at: u8, count: usize, ticket: Ticket) -> Called
+#[tactic(auto, unfolding(crate::specs::Events::commit_called, lists::specs::Choice::pick))]
+fn commit(at: u8, count: usize, ticket: Option<u64>) -> Called
     ensures { result ≡ commit_called at count ticket }
 {
-    if count != 2 {
-        return calls(Event::Bad);
+    match ticket {
+        Some(ticket) if count == 2 => calls(Event::Commit(at, ticket)),
+        _ => calls(Event::Bad),
     }
-    if !is_ticket(ticket) {
-        return calls(Event::Bad);
-    }
-    calls(Event::Commit(at, number_of(ticket)))
 }
 
 // What only a line of rig calls for.
+#[tactic(auto, unfolding(crate::specs::Events::power_called, lists::specs::Choice::pick))]
 fn power(at: u8, letter: u8, count: usize, line: &[u8]) -> Called
     ensures { result ≡ power_called at letter count line.now }
 {
-    if letter == 83 {
-        return store(at, count);
+    match letter {
+        b'S' => store(at, count),
+        b'R' => come_back(at, count, read_magnitude(field(line, 2))),
+        b'C' => commit(at, count, ticket_in(field(line, 2))),
+        _ => calls(Event::Bad),
     }
-    if letter == 82 {
-        return come_back(at, count, read_magnitude(field(line, 2)));
-    }
-    if letter == 67 {
-        return commit(at, count, ticket_in(field(line, 2)));
-    }
-    calls(Event::Bad)
 }
 
 // What a line with this letter and so many spaces calls for.
+#[tactic(auto, unfolding(crate::specs::Events::called_for, lists::specs::Choice::pick))]
 fn called_for(of_rig: bool, at: u8, m: u8, letter: u8, count: usize, line: &[u8]) -> Called
     ensures { result ≡ called_for of_rig at m letter count line.now }
 {
-    if letter == 84 {
-        return tick(of_rig, at, m as usize, count, line);
+    match letter {
+        b'T' => tick(of_rig, at, usize::from(m), count, line),
+        b'G' => give_up(at, count),
+        b'D' => delivery(at, count, count_of(number_in(field(line, 2)))),
+        _ if of_rig => power(at, letter, count, line),
+        _ => calls(Event::Bad),
     }
-    if letter == 71 {
-        return give_up(at, count);
-    }
-    if letter == 68 {
-        return delivery(at, count, count_of(number_in(field(line, 2))));
-    }
-    if of_rig {
-        return power(at, letter, count, line);
-    }
-    calls(Event::Bad)
 }
 
 // Whether a replica takes an event.
 fn is_taken(event: Event) -> bool
     ensures { result ≡ is_taken event }
 {
-    match event {
-        Event::Tick(_) => true,
-        Event::GiveUp(_) => true,
-        Event::Deliver(_, _) => true,
-        Event::Store(_) => false,
-        Event::Return(_, _) => false,
-        Event::Commit(_, _) => false,
-        Event::StoreAsked(_) => false,
-        Event::Bad => false,
-    }
+    matches!(
+        event,
+        Event::Tick(_) | Event::GiveUp(_) | Event::Deliver(_, _)
+    )
 }
 
 // The same event asked, where a replica takes it.
+#[tactic(auto, unfolding(crate::specs::Events::ask_called, lists::specs::Choice::pick))]
 fn ask(called: Called) -> Called
     ensures { result ≡ ask_called called }
 {
-    let event = called.event;
-    if !is_taken(event) {
+    if !is_taken(called.event) {
         return calls(Event::Bad);
     }
-    let readings = called.readings;
     Called {
-        event,
         asks: true,
-        readings,
+        ..called
     }
 }
 
+#[tactic(auto, unfolding(crate::specs::Events::store_asked_called, lists::specs::Choice::pick))]
 fn store_asked(at: u8, count: usize) -> Called
     ensures { result ≡ store_asked_called at count }
 {
-    if count == 1 {
-        return calls(Event::StoreAsked(at));
-    }
-    calls(Event::Bad)
+    calls(if count == 1 {
+        Event::StoreAsked(at)
+    } else {
+        Event::Bad
+    })
 }
 
 // What a line of rig calls for whose first field has these two letters.
+#[tactic(auto, unfolding(crate::specs::Events::two_called, lists::specs::Choice::pick))]
 fn two(at: u8, m: u8, first: u8, second: u8, count: usize, line: &[u8]) -> Called
     ensures { result ≡ two_called at m first second count line.now }
 {
-    if first == 65 {
-        return ask(called_for(true, at, m, second, count, line));
+    match (first, second) {
+        (b'A', _) => ask(called_for(true, at, m, second, count, line)),
+        (b'S', b'A') => store_asked(at, count),
+        _ => calls(Event::Bad),
     }
-    if first != 83 {
-        return calls(Event::Bad);
-    }
-    if second != 65 {
-        return calls(Event::Bad);
-    }
-    store_asked(at, count)
 }
 
 // What a line with this first field and so many spaces calls for.
+#[tactic(auto, unfolding(crate::specs::Events::word_called, lists::specs::Choice::pick))]
 fn word_called(of_rig: bool, at: u8, m: u8, word: &[u8], count: usize, line: &[u8]) -> Called
     ensures { result ≡ word_called of_rig at m word.now count line.now }
 {
-    if !of_rig {
-        return called_for(false, at, m, letter(word), count, line);
+    if of_rig && word.len() == 2 {
+        two(at, m, word[0], word[1], count, line)
+    } else {
+        called_for(of_rig, at, m, letter(word), count, line)
     }
-    if word.len() == 2 {
-        return two(at, m, word[0], word[1], count, line);
-    }
-    called_for(true, at, m, letter(word), count, line)
 }
 
 // What a line calls for, in a group of so many boxes with m readings. A line of rig's may have singles for readings, store a record, return a box, ask an
 // event or commit a ticket.
+#[tactic(auto, unfolding(crate::specs::Events::called, lists::specs::Choice::pick))]
 pub fn call_in(of_rig: bool, boxes: u8, m: u8, line: &[u8]) -> Called
     ensures { result ≡ called of_rig boxes m line.now }
 {

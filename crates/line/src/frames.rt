@@ -1,4 +1,5 @@
 // The frames that lines sent. Line f has the SLOT bytes of a table from SLOT * f on, and the length of its frame at place f of a list.
+// One table and one list, since nothing here has a heap.
 ghost use Rattle.std.specs.Prelude.{◌≡◌, ◌+◌, ◌*◌, ◌≤◌, length, take};
 ghost use Rattle.line.specs.Frames.{slot, was_sent, frame_of, frame_fits, kept_frame, kept};
 
@@ -9,56 +10,31 @@ pub const SLOT: usize = 69;
 pub fn was_sent(lengths: &[usize], number: u32, f: u32) -> bool
     ensures { result ≡ was_sent lengths.now number f }
 {
-    if f == 0 {
-        return false;
-    }
-    if number <= f {
-        return false;
-    }
-    let at = f as usize;
-    if lengths.len() <= at {
-        return false;
-    }
-    0 < lengths[at]
+    0 < f && f < number && 0 < lengths.get(f as usize).copied().unwrap_or(0)
 }
 
 // The frame of so many bytes that line f sent.
 pub fn frame_of(table: &[u8], f: u32, size: usize) -> &[u8]
     ensures { result.now ≡ frame_of table.now f size }
 {
-    let a = SLOT * (f as usize);
-    if table.len() <= a {
-        return &table[0..0];
-    }
-    if table.len() - a <= size {
-        return &table[a..];
-    }
-    &table[a..a + size]
+    let start = (SLOT * (f as usize)).min(table.len());
+    let rest = &table[start..];
+    &rest[..size.min(rest.len())]
 }
 
 // Whether a frame of so many bytes of an area has room in the line's place.
 fn fits(table: usize, number: u32, frame: usize, size: usize) -> bool
     ensures { result ≡ frame_fits table number frame size }
 {
-    if frame < size {
-        return false;
-    }
-    if SLOT < size {
-        return false;
-    }
-    SLOT * (number as usize) + size <= table
+    size <= frame && size <= SLOT && SLOT * (number as usize) + size <= table
 }
 
 fn put_frame(table: &mut [u8], number: u32, frame: &[u8], size: usize)
     requires { (size ≤ length frame.now) × (slot * number + size ≤ length table.old) }
     ensures { table.new ≡ kept_frame table.old number (take size frame.now) }
 {
-    let a = SLOT * (number as usize);
-    let mut i = 0;
-    while i < size {
-        table[a + i] = frame[i];
-        i += 1;
-    }
+    let start = SLOT * (number as usize);
+    table[start..start + size].copy_from_slice(&frame[..size]);
 }
 
 // Puts the frame of line `number` into the table, where there is room.

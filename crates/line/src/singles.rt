@@ -1,65 +1,42 @@
 // Singles as the lines of rig write them: `f` and eight hexadecimal digits, the bits of a single with the highest digit first.
-ghost use Rattle.std.specs.Prelude.{◌≡◌, true, ◌+◌, ◌*◌, ◌<◌};
-ghost use Rattle.line.specs.Singles.{is_hex, hex_digit, single_in};
+ghost use Rattle.std.specs.Prelude.{◌≡◌, ◌≤◌, Some, None, length};
+ghost use Rattle.lists.specs.Choice.{pick};
+ghost use Rattle.line.specs.Singles.{is_hex, hex_digit, all_hex, hex_from, single_in};
 
 use transmitters::Reading;
 use transmitters::numbers::single_of;
 
-#[tactic(auto, unfolding(crate::specs::Singles::is_hex, text::specs::Numbers::is_digit))]
-fn is_hex(b: u8) -> bool
-    ensures { result ≡ is_hex b }
+fn digit_of(b: u8) -> Option<u32>
+    ensures { result ≡ pick (is_hex b) (Some (hex_digit b)) None }
 {
-    if b < 48 {
-        return false;
-    }
-    if b <= 57 {
-        return true;
-    }
-    if b < 97 {
-        return false;
-    }
-    b <= 102
-}
-
-fn digit_of(b: u8) -> u32
-    requires { is_hex b ≡ true }
-    ensures { result ≡ hex_digit b }
-{
-    if b <= 57 {
-        (b - 48) as u32
-    } else {
-        (b - 87) as u32
+    match b {
+        b'0'..=b'9' => Some(u32::from(b - b'0')),
+        b'a'..=b'f' => Some(u32::from(b - b'a') + 10),
+        _ => None,
     }
 }
 
-// Digits of at most 28 bits, with one digit more.
-fn with_digit(high: u32, b: u8) -> u32
-    requires { (high < 268435456) × (is_hex b ≡ true) }
-    ensures { result ≡ high * 16 + hex_digit b }
+// The bits that at most eight digits spell.
+fn bits_in(digits: &[u8]) -> Option<u32>
+    requires { length digits.now ≤ 8 }
+    ensures { result ≡ pick (all_hex digits.now) (Some (hex_from 0 digits.now)) None }
 {
-    high * 16 + digit_of(b)
+    let mut bits = 0;
+    for &b in digits {
+        bits = bits * 16 + digit_of(b)?;
+    }
+    Some(bits)
 }
 
 // The single that a field is; missing where it is none.
-#[tactic(auto, using(crate::proofs::SingleLaws::not_nine))]
 pub(crate) fn single_in(word: &[u8]) -> Reading
     ensures { result ≡ single_in word.now }
 {
-    if word.len() != 9 {
+    if word.len() != 9 || word[0] != b'f' {
         return Reading::Missing;
     }
-    if word[0] != 102 {
-        return Reading::Missing;
+    match bits_in(&word[1..]) {
+        Some(bits) => Reading::Newtons(single_of(bits)),
+        None => Reading::Missing,
     }
-    let mut high = 0;
-    let mut i = 1;
-    while i < word.len() {
-        let b = word[i];
-        if !is_hex(b) {
-            return Reading::Missing;
-        }
-        high = with_digit(high, b);
-        i += 1;
-    }
-    Reading::Newtons(single_of(high))
 }

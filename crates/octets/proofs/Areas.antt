@@ -1,31 +1,25 @@
--- Laws of an area that bytes were put into: stores are bytes put, and bytes put one after the other are bytes put at once.
+-- Laws of an area that bytes were put into: bytes copied are bytes put, and bytes put one after the other are bytes put at once.
 -- Assumes nothing.
 use mathlib.Core.Path.{◌≡◌, sym, ap, ◌∙◌}
 use mathlib.Core.List.{List, [], ◌∷◌, ◌++◌, append_assoc}
-use Prim.Native.Nat.{ℕ, suc, ◌+◌, ◌-◌, ◌≤◌}
+use Prim.Native.Nat.{ℕ, ◌+◌, ◌-◌, ◌≤◌}
 use native.Mathlib.Omega.{arith}
 use native.Mathlib.Nat.{add-zero, zero-add}
 use lib.ListN.{length, take, drop, set, length-append, take-append-drop}
 use lib.Seq.{drop-drop, length-take-le, take_at, take-append_seam, drop-append-add, sets-eq, paste}
+use borrow.Rule.Slice.PartMut.{put_mid}
 use Rattle.octets.specs.Words.{part}
 use Rattle.octets.specs.Areas.{put, over}
 
+-- a store is a byte put
 pub put_one : (l : List ℕ) (i a : ℕ) → i + 1 ≤ length l → set l i a ≡ put l i (a ∷ [])
 unfolding put
 put_one l i a h = sets-eq (a ∷ []) l i h ∙ append_assoc (take i l) _ _
 
-pub put_two : (l : List ℕ) (i a b : ℕ) → i + 2 ≤ length l → set (set l i a) (i + 1) b ≡ put l i (a ∷ b ∷ [])
+-- bytes copied over k places are bytes put
+pub put_over : (l : List ℕ) (i k : ℕ) (ys zs : List ℕ) → ys ≡ zs → k ≡ length zs → put_mid i k l ys ≡ put l i zs
 unfolding put
-put_two l i a b h = let e : i + 1 ≡ suc i = omega arith in rw e (sets-eq (a ∷ b ∷ []) l i h ∙ append_assoc (take i l) _ _)
-
-pub put_four : (l : List ℕ) (i a b c d : ℕ) → i + 4 ≤ length l
-    → set (set (set (set l i a) (i + 1) b) (i + 2) c) (i + 3) d ≡ put l i (a ∷ b ∷ c ∷ d ∷ [])
-unfolding put
-put_four l i a b c d h =
-    let e₁ : i + 1 ≡ suc i = omega arith in
-    let e₂ : i + 2 ≡ suc (suc i) = omega arith in
-    let e₃ : i + 3 ≡ suc (suc (suc i)) = omega arith in
-    rw (e₁, e₂, e₃) (sets-eq (a ∷ b ∷ c ∷ d ∷ []) l i h ∙ append_assoc (take i l) _ _)
+put_over l i k ys zs e f = rw (e, f, drop-drop (length zs) i l)
 
 pub put-nothing : (l : List ℕ) (i : ℕ) → l ≡ put l i []
 unfolding put

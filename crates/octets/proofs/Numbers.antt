@@ -6,6 +6,7 @@ use native.Mathlib.Omega.{arith}
 use native.Mathlib.Nat.{pow-suc, div-lt_iff_lt-mul, add-zero}
 use lib.ListN.{length, take, drop, get_or, length-drop}
 use lib.Seq.{get_or-drop, length-take-le}
+use Rattle.std.specs.Int.{w32, w64, to_le_bytes}
 use Rattle.octets.specs.Words.{AllBytes, little_endian, spelled, part, number_at}
 
 -- ---- lists of bytes
@@ -98,3 +99,16 @@ number-of-four l i h = rw (first-four (drop i l) (simp length-drop (omega arith)
 pub number-of-two : (l : List ℕ) (i : ℕ) → i + 2 ≤ length l → number_at 2 l i ≡ get_or l i 0 + 256 * get_or l (i + 1) 0
 unfolding number_at spelled
 number-of-two l i h = rw (first_two (drop i l) (simp length-drop (omega arith))) (simp (get_or-drop, add-zero) (omega arith))
+
+-- ---- the bytes of a number, as the library writes them
+
+pub four-bytes : (x : ℕ) → to_le_bytes w32 x ≡ little_endian 4 x
+unfolding little_endian
+four-bytes x =
+    let second : x / 65536 ≡ x / 256 / 256 = omega arith in
+    let third : x / 16777216 ≡ x / 256 / 256 / 256 = omega arith in
+    rw (second, third)
+
+pub two_bytes : (x : ℕ) → take 2 (to_le_bytes w64 x) ≡ little_endian 2 x
+unfolding little_endian
+two_bytes x = refl

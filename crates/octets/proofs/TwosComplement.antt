@@ -1,17 +1,16 @@
--- An i32 and its 32 bits. The definitions of specs/ are the toolchain's own reading of bits, `to_z w32` and `of_z w32`, and what the code
--- computes by `-1 - x` is that reading, both ways. Assumes nothing.
-use mathlib.Core.Path.{◌≡◌, refl, sym, ap, ◌∙◌, subst}
+-- An i32 and its 32 bits. The definitions of specs/ are the toolchain's own reading of bits, `to_z w32` and `of_z w32`. Assumes nothing.
+use mathlib.Core.Path.{◌≡◌, refl, ap, ◌∙◌}
 use mathlib.Core.Bool.{Bool, true, false}
-use Prim.Native.Nat.{ℕ, zero, suc, ◌-◌, ◌^◌, ◌≤◌, ◌<◌}
+use Prim.Native.Nat.{ℕ, zero, suc, ◌^◌, ◌<◌}
 use native.Mathlib.Omega.{arith}
 use native.Mathlib.Nat.{zero-add}
 use lib.IntN.{ℤ, pos, negsuc, ◌-ℤ◌}
 use lib.Signed.{lt_z}
 use lib.Dec.{ltb}
-use borrow.Author.Tests.{ltb-true, le-ltb}
+use borrow.Author.Tests.{le-ltb}
 use mir.Syntax.{w32}
 use mir.Val.{SFits, to_z, of_z, sel}
-use mir.ValLaws.{to_z-of_z, of_z-to_z, to_z_pos, of_z_fits}
+use mir.ValLaws.{to_z-of_z, of_z-to_z, of_z_fits}
 use Rattle.lists.specs.Choice.{pick}
 use Rattle.octets.specs.Words.{twos_complement, from_twos_complement}
 
@@ -42,9 +41,8 @@ value-back z s = as-to_z (twos_complement z) ∙ ap (to_z w32) (as-of_z z) ∙ t
 pub bits-lt : (z : ℤ) → SFits w32 z → twos_complement z < 2 ^ 32
 bits-lt z s = rw as-of_z (of_z_fits w32 z s).fits
 
--- ---- what the code computes
+-- ---- −1 − z, of both signs
 
--- −1 − z, of both signs
 pub minus_pos : (k : ℕ) → negsuc 0 -ℤ pos k ≡ negsuc k
 minus_pos zero = refl
 minus_pos (suc k) = ap (λ (n : ℕ). negsuc (suc n)) (zero-add k)
@@ -52,34 +50,7 @@ minus_pos (suc k) = ap (λ (n : ℕ). negsuc (suc n)) (zero-add k)
 pub minus-negsuc : (k : ℕ) → negsuc 0 -ℤ negsuc k ≡ pos k
 minus-negsuc k = rw (le-ltb (suc k) 1 (omega arith)) (ap pos (omega arith))
 
--- bits from 2147483648 on are a negative number
-pub from-high-bits : (x : ℕ) → 2147483648 ≤ x → x < 4294967296 → negsuc 0 -ℤ to_z w32 (4294967295 - x) ≡ to_z w32 x
-from-high-bits x low high =
-    let k : ℕ = 4294967295 - x in
-    ap (λ (z : ℤ). negsuc 0 -ℤ z) (to_z_pos w32 k (omega arith))
-    ∙ minus_pos k
-    ∙ rw (le-ltb x 2147483648 low) (ap negsuc (omega arith))
-
--- a negative number is −1 − k
-pub record Negative (z : ℤ) : Type 0 where
-  pub k : ℕ
-  pub same : to_z w32 (of_z w32 (negsuc 0 -ℤ z)) ≡ pos k
-  pub fits : SFits w32 (negsuc 0 -ℤ z)
-  pub small : k < 2147483648
-  pub back : 4294967295 - k ≡ twos_complement z
-
-pub negative : (z : ℤ) → SFits w32 z → lt_z z (pos 0) ≡ true → Negative z
-unfolding twos_complement
-negative (pos n) s t = absurd (omega (arith, ltb-true n 0 t))
-negative (negsuc k) s t =
-    let small : k < 2147483648 = s.sfits in record {
-      k = k;
-      same = ap (λ (z : ℤ). to_z w32 (of_z w32 z)) (minus-negsuc k) ∙ to_z_pos w32 k small;
-      fits = subst (SFits w32) (sym (minus-negsuc k)) (record { sfits = small });
-      small = small;
-      back = omega arith;
-    }
-
+-- a number that is not negative
 pub record Natural (z : ℤ) : Type 0 where
   pub k : ℕ
   pub same : z ≡ pos k

@@ -15,11 +15,8 @@ pub fn read_values(part: &[u8], out: &mut [i32])
     ensures { out.new
         ≡ filled (pos 0) (length out.old) (length out.old) (value_at part.now) }
 {
-    let mut i = 0;
-    while i < out.len() {
-        let z = signed(u32_at(part, VALUE_LENGTH * i));
-        out[i] = z;
-        i += 1;
+    for (i, place) in out.iter_mut().enumerate() {
+        *place = signed(u32_at(part, VALUE_LENGTH * i));
     }
 }
 
@@ -27,10 +24,7 @@ pub fn put_values(values: &[i32], area: &mut [u8], at: usize)
     requires { at + value_length * length values.now ≤ length area.old }
     ensures { area.new ≡ put area.old at (values_bytes values.now) }
 {
-    let mut i = 0;
-    while i < values.len() {
-        let z = values[i];
-        put_u32(area, at + VALUE_LENGTH * i, bits(z));
-        i += 1;
+    for (i, &value) in values.iter().enumerate() {
+        put_u32(area, at + VALUE_LENGTH * i, bits(value));
     }
 }

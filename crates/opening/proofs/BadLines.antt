@@ -12,13 +12,23 @@ use Rattle.lists.specs.Choice.{pick}
 use Rattle.lists.proofs.Below.{all_of}
 use Rattle.text.specs.Numbers.{number_of, is_whole}
 use Rattle.line.specs.Fields.{spaces, field}
-use Rattle.opening.specs.declared.Opening.{Opening}
-use Rattle.opening.specs.declared.Opening.TheVariants.{Bad, Refused, Ready}
+use Rattle.std.specs.Prelude.{Option, Some, None, Result, Ok, Err}
+use Rattle.std.proofs.lemmas.Option.{same_Some}
+use Rattle.refusal.specs.declared.Refusal.{Refusal}
+use Rattle.replica.specs.declared.Settings.{Settings}
+use Rattle.opening.specs.declared.Unopened.{Unopened}
+use Rattle.opening.specs.declared.Unopened.TheVariants.{Bad, Refused}
 use Rattle.opening.specs.declared.wrong.Wrong.TheVariants.{Field, Quorum, Fields}
-use Rattle.opening.specs.Opening.{is_rig, size_in, sizes_in, sizes_refusal, starts_of, begun, all_numbers, is_quorums, ended, numbered, opened_with, opened_by}
+use Rattle.opening.specs.Opening.{is_rig, size_in, sizes_in, sizes_refusal, starts_of, begun, all_numbers, is_quorums, ended, numbered, opened_with, opened_unless, opened_by}
 use Rattle.opening.specs.Wrong.{is_right, first_wrong, needed, wrong_quorum, wrong_end, wrong_form, wrong_by, wrong_in}
 use Rattle.opening.proofs.EndingLaws.{with-quorums, without-quorums}
 use Rattle.opening.proofs.WrongLaws.{wrong-here, wrong-after}
+
+opened : {s : Settings} → ◌≡◌ {A = Result Settings Unopened} (Ok s) (Err Bad) → ⊥
+opened e = cc
+
+refused : (g : Refusal) → ◌≡◌ {A = Result Settings Unopened} (Err (Refused g)) (Err Bad) → ⊥
+refused g e = cc
 
 module _ (line : List ℕ) where
   -- each of so many fields is right, where the first that is wrong comes after them
@@ -122,25 +132,22 @@ module _ (line : List ℕ) where
           (end, λ i l. all_right 0 (count + 5) (omega (arith, r)) i (omega arith) (omega (arith, l)))
 
   -- of a bad line with nothing wrong but the number of its fields, that number is not the one needed
-  pub bad-count : (fields needs : ℕ) → (opened_by line (sizes_in line)).opening ≡ Bad → wrong_in line ≡ Fields fields needs → fields ≡ needs → ⊥
-  unfolding wrong_in wrong_by opened_by opened_with needed pick
+  pub bad-count : (fields needs : ℕ) → opened_by line (sizes_in line) ≡ Err Bad → wrong_in line ≡ Some (Fields fields needs) → fields ≡ needs → ⊥
+  unfolding wrong_in wrong_by opened_by opened_unless opened_with needed pick
   bad-count fields needs bad wrong same =
-      let settings = (opened_by line (sizes_in line)).settings in
       let form : wrong_form line (suc (spaces line)) (needed (sizes_in line)) ≡ Fields fields needs =
-      ap (λ (o : Opening). wrong_by line o settings) (sym bad) ∙ wrong in
-      by (eqb (sizes_refusal (sizes_in line)) 0) refl form bad
+      same_Some _ _ (ap (wrong_by line) (sym bad) ∙ wrong) in
+      by (sizes_refusal (sizes_in line)) refl form bad
     where
-      by : (t : Bool) → eqb (sizes_refusal (sizes_in line)) 0 ≡ t → wrong_form line (suc (spaces line)) (needed (sizes_in line)) ≡ Fields fields needs
-          → (opened_by line (sizes_in line)).opening ≡ Bad → ⊥
-      by true z form bad =
+      by : (r : Option Refusal) → sizes_refusal (sizes_in line) ≡ r → wrong_form line (suc (spaces line)) (needed (sizes_in line)) ≡ Fields fields needs
+          → opened_by line (sizes_in line) ≡ Err Bad → ⊥
+      by None z form bad =
           let count = (starts_of (sizes_in line).n (sizes_in line).m (sizes_in line).p).count in
           let r = form-right count fields needs (rw z at form) same in
           let b = right-begun (λ i l. r.1 i (omega (arith, l))) in
           let f = right-numbered count r.0 r.1 in
-          let d : Ready ≡ Bad = rw (b, z, f) at bad in
-          let q : ◌≡◌ {A = ℕ} 0 1 = cc in omega arith
-      by false z form bad =
+          opened (rw (b, z, f) at bad)
+      by (Some g) z form bad =
           let r = form-right 0 fields needs (rw z at form) same in
           let b = right-begun r.1 in
-          let d : Refused (sizes_refusal (sizes_in line)) ≡ Bad = rw (b, z) at bad in
-          let q : ◌≡◌ {A = ℕ} 0 1 = cc in omega arith
+          refused g (rw (b, z) at bad)

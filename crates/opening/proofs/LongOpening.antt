@@ -6,32 +6,33 @@ use mathlib.Core.List.{List}
 use Prim.Native.Nat.{ℕ, zero, suc, ◌+◌, ◌*◌, ◌≤◌, ◌<◌}
 use native.Mathlib.Omega.{arith}
 use lib.Dec.{eqb, leb, ltb}
+use lib.Pointwise.{pointwise_long}
+use Rattle.std.specs.Prelude.{codes}
 use lib.ListN.{length}
 use borrow.Author.Tests.{eqb-true, eqb-false, ltb-true, ltb-false}
 use Rattle.lists.specs.Choice.{pick}
 use Rattle.lists.specs.Below.{all_below}
 use Rattle.lists.proofs.Booleans.{both, never}
 use Rattle.lists.proofs.Below.{all-at}
-use Rattle.text.specs.declared.numbers.Number.{Number}
-use Rattle.text.specs.declared.numbers.Number.TheVariants.{Whole, Malformed}
+use Rattle.std.specs.Prelude.{ℤ, Option, Some, None}
 use Rattle.text.specs.Numbers.{number_of, is_whole}
 use Rattle.line.specs.Fields.{field}
 use Rattle.line.proofs.LongLines.{narrow, number-length}
 use Rattle.opening.specs.Opening.{size_in, sizes_in, is_rig, begun, all_numbers, is_quorums, ended, numbered}
 use Rattle.opening.proofs.EndingLaws.{WithQuorums, with-quorums, without-quorums}
 
-size-length : (word : List ℕ) (n : Number) → number_of word ≡ n → leb (size_in n) 255 ≡ true → length word ≤ 11
-unfolding size_in is_whole pick
-size-length word (Whole z) e h = number-length word (Whole z) e refl
-size-length word Malformed e h = never h
+size-length : (word : List ℕ) (n : Option ℤ) → number_of word ≡ n → leb (size_in n) 255 ≡ true → length word ≤ 11
+unfolding size_in pick
+size-length word (Some z) e h = number-length word (Some z) e refl
+size-length word None e h = never h
 
 rig-length : (word : List ℕ) → is_rig word ≡ true → length word ≤ 11
 unfolding is_rig
-rig-length word e = omega (arith, eqb-true (length word) 3 (both (eqb (length word) 3) _ e).0)
+rig-length word e = omega (arith, pointwise_long eqb word (codes "rig") e)
 
 quorums-length : (word : List ℕ) → is_quorums word ≡ true → length word ≤ 11
 unfolding is_quorums
-quorums-length word e = omega (arith, eqb-true (length word) 7 (both (eqb (length word) 7) _ e).0)
+quorums-length word e = omega (arith, pointwise_long eqb word (codes "quorums") e)
 
 -- a field behind the numbers
 behind : (line : List ℕ) (count : ℕ) → is_quorums (field (count + 5) line) ≡ true → WithQuorums count line → (j : ℕ) → count + 4 ≤ j → j < count + 7

@@ -1,28 +1,25 @@
 -- Laws of what is wrong with a first line. Assumes nothing.
-use mathlib.Core.Path.{◌≡◌, refl, sym, ap}
+use mathlib.Core.Path.{◌≡◌, refl, sym, ap, ◌∙◌}
 use mathlib.Core.Bool.{Bool, true, false}
-use mathlib.Core.List.{List, [], ◌∷◌}
-use Prim.Native.Nat.{ℕ, suc, ◌+◌, ◌≤◌, ◌<◌, min}
+use mathlib.Core.List.{List}
+use Prim.Native.Nat.{ℕ, suc}
 use native.Mathlib.Omega.{arith}
-use native.Mathlib.Numerals.{add-one}
 use lib.Dec.{eqb}
-use lib.ListN.{length}
-use borrow.Author.Tests.{lt-ltb, le-ltb}
+use borrow.Author.Tests.{eqb-true}
 use Rattle.lists.specs.Choice.{pick}
-use Rattle.scram.specs.Answers.{Done, Ignored, Refused}
+use Rattle.refusal.specs.declared.Refusal.{Refusal}
+use Rattle.refusal.specs.declared.Refusal.TheVariants as Ground
+use Rattle.refusal.specs.Numbers.{number}
+use Rattle.scram.specs.Answers.{Done, Refused, answered_of}
 use Rattle.replica.specs.declared.Settings.{Settings}
+use Rattle.replica.specs.declared.Replica.{Replica}
 use Rattle.replica.specs.Settings.{settings_refusal}
 use Rattle.replica.specs.Calls.{made_answer}
-use Rattle.line.specs.Fields.{spaces, field}
-use Rattle.line.proofs.FieldLaws.{one-more-le}
+use Rattle.line.specs.Fields.{field}
+use Rattle.std.specs.Prelude.{Option, Some, None, option_map, MatchOption, IsSomeAnd, Result, Ok, Err}
+use Rattle.std.specs.Result.{result_err}
 use Rattle.opening.specs.declared.wrong.Wrong.TheVariants as Wrong
-use Rattle.opening.specs.Wrong.{is_right, first_wrong, wrong_end, wrong_form, wrong_settings}
-
--- a line has no more spaces than bytes
-pub spaces-le : (line : List ℕ) → spaces line ≤ length line
-unfolding spaces
-spaces-le [] = omega arith
-spaces-le (b ∷ bs) = omega (arith, one-more-le b (spaces bs), spaces-le bs)
+use Rattle.opening.specs.Wrong.{is_right, first_wrong, refusal_of}
 
 -- ---- the first field that is wrong
 
@@ -38,44 +35,48 @@ pub wrong-none : (line : List ℕ) (k : ℕ) → first_wrong line k 0 ≡ k
 unfolding first_wrong
 wrong-none line k = refl
 
--- ---- the form, by the first field that is wrong among those that are there and needed
-
-module _ (line : List ℕ) (fields needs count k : ℕ) (e : count ≡ min fields needs) (f : k ≡ first_wrong line 0 count) where
-  pub form-field : k < count → Wrong.Field (k + 1) ≡ wrong_form line fields needs
-  unfolding wrong_form pick
-  form-field l = rw (sym e, sym f, lt-ltb k count l, add-one)
-
-  pub form-end : count ≤ k → wrong_end line fields needs ≡ wrong_form line fields needs
-  unfolding wrong_form pick
-  form-end l = rw (sym e, sym f, le-ltb k count l) refl
-
 -- ---- settings, by what making answers
 
+pub refusal-of-number : (refusal : Refusal) → refusal_of (number refusal) ≡ Some refusal
+unfolding refusal_of
+refusal-of-number Ground.Group = refl
+refusal-of-number Ground.Sizes = refl
+refusal-of-number Ground.Coefficient = refl
+refusal-of-number Ground.Limits = refl
+refusal-of-number Ground.Area = refl
+refusal-of-number Ground.LastPeriod = refl
+refusal-of-number Ground.Mark = refl
+refusal-of-number Ground.Frame = refl
+refusal-of-number Ground.Sender = refl
+refusal-of-number Ground.Place = refl
+refusal-of-number Ground.Base = refl
+refusal-of-number Ground.LastView = refl
+refusal-of-number Ground.PageArea = refl
+refusal-of-number Ground.Page = refl
+refusal-of-number Ground.Record = refl
+refusal-of-number Ground.Missed = refl
+refusal-of-number Ground.Ticket = refl
+refusal-of-number Ground.Quorums = refl
+
+-- a refusal, if there is one, as what is wrong
+pub mapped : (refusal : Option Refusal) (wrong : Option Wrong.the_data) →
+    MatchOption refusal (wrong ≡ None) (λ r. IsSomeAnd wrong (λ w. w ≡ Wrong.Refused r)) → wrong ≡ option_map Wrong.Refused refusal
+mapped None wrong e = e
+mapped (Some r) (Some w) e = ap Some e
+mapped (Some r) None e = absurd e
+
 module _ (s : Settings) where
-  pub settings-made : made_answer s ≡ Done → Wrong.Nothing ≡ wrong_settings s
-  unfolding wrong_settings pick
-  settings-made e = by (eqb (settings_refusal s) 0) refl e
+  -- what making is refused by
+  pub refused-by : (made : Result Replica Refusal) → answered_of made ≡ made_answer s → result_err made ≡ refusal_of (settings_refusal s)
+  unfolding refusal_of pick
+  refused-by made e = by made (eqb (settings_refusal s) 0) refl e
     where
-      by : (t : Bool) → eqb (settings_refusal s) 0 ≡ t → made_answer s ≡ Done → Wrong.Nothing ≡ wrong_settings s
-      by true z e = rw z
-      by false z e = absurd (let d : Refused (settings_refusal s) ≡ Done = rw z at e in let n : ◌≡◌ {A = ℕ} 0 1 = cc in omega arith)
-
-  pub settings-refused : (number : ℕ) → made_answer s ≡ Refused number → Wrong.Refused number ≡ wrong_settings s
-  unfolding wrong_settings pick
-  settings-refused number e = by (eqb (settings_refusal s) 0) refl e
-    where
-      by : (t : Bool) → eqb (settings_refusal s) 0 ≡ t → made_answer s ≡ Refused number → Wrong.Refused number ≡ wrong_settings s
-      by true z e = absurd (let d : Done ≡ Refused number = rw z at e in let n : ◌≡◌ {A = ℕ} 0 1 = cc in omega arith)
-      by false z e =
-          let d : Refused (settings_refusal s) ≡ Refused number = rw z at e in
-          let k : number ≡ settings_refusal s = cc in
-          rw z (ap Wrong.Refused k)
-
-  -- making ignores nothing
-  pub settings-never : made_answer s ≡ Ignored → ⊥
-  unfolding pick
-  settings-never e = by (eqb (settings_refusal s) 0) refl e
-    where
-      by : (t : Bool) → eqb (settings_refusal s) 0 ≡ t → made_answer s ≡ Ignored → ⊥
-      by true z e = let d : Done ≡ Ignored = rw z at e in let n : ◌≡◌ {A = ℕ} 0 1 = cc in omega arith
-      by false z e = let d : Refused (settings_refusal s) ≡ Ignored = rw z at e in let n : ◌≡◌ {A = ℕ} 0 1 = cc in omega arith
+      by : (made : Result Replica Refusal) (t : Bool) → eqb (settings_refusal s) 0 ≡ t → answered_of made ≡ made_answer s →
+          result_err made ≡ refusal_of (settings_refusal s)
+      by (Ok r) true z e = rw (eqb-true _ _ z)
+      by (Ok r) false z e = absurd (let d : Done ≡ Refused (settings_refusal s) = rw z at e in let n : ◌≡◌ {A = ℕ} 0 1 = cc in omega arith)
+      by (Err refusal) true z e = absurd (let d : Refused (number refusal) ≡ Done = rw z at e in let n : ◌≡◌ {A = ℕ} 0 1 = cc in omega arith)
+      by (Err refusal) false z e =
+          let d : Refused (number refusal) ≡ Refused (settings_refusal s) = rw z at e in
+          let k : number refusal ≡ settings_refusal s = cc in
+          sym (refusal-of-number refusal) ∙ ap refusal_of k

@@ -1,28 +1,28 @@
 -- The first line of `rig`: `rig N n m p`, the numbers of A, L, C and K row by row, the lower limits, the upper limits and the start, and perhaps
 -- ` quorums a b`. Field 5 is the first number of A.
-use Rattle.std.specs.Prelude.{ℕ, ◌+◌, ◌*◌, ◌/◌, ◌%◌, Bool, not, ◌&&◌, ◌||◌, List, [], ◌∷◌, length, get_or, eqb, leb, ltb, ℤ, pos, negsuc}
+use Rattle.std.specs.Prelude.{ℕ, ◌+◌, ◌*◌, ◌/◌, ◌%◌, Bool, not, ◌&&◌, ◌||◌, List, codes, eqb, leb, ltb, ℤ, pos, negsuc, Option, Some, None, Result, Ok, Err}
+use Rattle.std.specs.Str.{bytes_eq}
 use Rattle.lists.specs.Choice.{pick}
 use Rattle.lists.specs.Places.{filled}
 use Rattle.lists.specs.Below.{all_below}
 use Rattle.law.specs.declared.Settings as Law
 use Rattle.quorums.specs.declared.Quorums.{Quorums}
 use Rattle.quorums.specs.Quorums.{majorities}
-use Rattle.replica.specs.Settings.{blank_settings}
-use Rattle.text.specs.declared.numbers.Number.{Number}
-use Rattle.text.specs.declared.numbers.Number.TheVariants.{Whole, Malformed}
+use Rattle.refusal.specs.declared.Refusal.{Refusal}
+use Rattle.refusal.specs.declared.Refusal.TheVariants as Ground
+use Rattle.replica.specs.declared.Settings.{Settings}
 use Rattle.opening.specs.declared.Sizes.{Sizes}
 use Rattle.opening.specs.declared.Starts.{Starts}
-use Rattle.opening.specs.declared.Opening.{Opening}
-use Rattle.opening.specs.declared.Opening.TheVariants.{Bad, Refused, Ready}
-use Rattle.opening.specs.declared.Opened.{Opened}
+use Rattle.opening.specs.declared.Unopened.{Unopened}
+use Rattle.opening.specs.declared.Unopened.TheVariants.{Bad, Refused}
 use Rattle.text.specs.Numbers.{number_of, value_in, is_whole}
 use Rattle.line.specs.Fields.{spaces, field}
 
 -- "N, n, m and p are 0 to 255"; 256 for anything else
-unfoldable pub size_in : Number → ℕ
-size_in (Whole (pos n)) = pick (leb n 255) n 256
-size_in (Whole (negsuc n)) = 256
-size_in Malformed = 256
+unfoldable pub size_in : Option ℤ → ℕ
+size_in (Some (pos n)) = pick (leb n 255) n 256
+size_in (Some (negsuc n)) = 256
+size_in None = 256
 
 -- N, n, m and p
 unfoldable pub sizes_in : List ℕ → Sizes
@@ -35,7 +35,7 @@ sizes_in line = record {
 
 -- the word `rig`
 unfoldable pub is_rig : List ℕ → Bool
-is_rig word = eqb (length word) 3 && (eqb (get_or word 0 0) 114 && (eqb (get_or word 1 0) 105 && eqb (get_or word 2 0) 103))
+is_rig word = bytes_eq word (codes "rig")
 
 -- the line begins with `rig` and four numbers from 0 to 255
 unfoldable pub begun : List ℕ → Sizes → Bool
@@ -45,9 +45,11 @@ begun word s = is_rig word && (leb s.boxes 255 && (leb s.n 255 && (leb s.m 255 &
 unfoldable pub from_one : ℕ → ℕ → Bool
 from_one size most = not (eqb size 0) && leb size most
 
--- the refusal of N by 1, or of n, m or p by 2, or 0
-unfoldable pub sizes_refusal : Sizes → ℕ
-sizes_refusal s = pick (ltb s.boxes 3 || ltb 9 s.boxes) 1 (pick (from_one s.n 6 && (from_one s.m 4 && from_one s.p 4)) 0 2)
+-- the refusal of N by 1, or of n, m or p by 2
+unfoldable pub sizes_refusal : Sizes → Option Refusal
+sizes_refusal s =
+    pick (ltb s.boxes 3 || ltb 9 s.boxes) (Some Ground.Group)
+    (pick (from_one s.n 6 && (from_one s.m 4 && from_one s.p 4)) None (Some Ground.Sizes))
 
 -- the fields at which A, L, C, K, the limits and the start begin, and how many numbers there are
 unfoldable pub starts_of : ℕ → ℕ → ℕ → Starts
@@ -66,12 +68,8 @@ unfoldable pub all_numbers : ℕ → List ℕ → Bool
 all_numbers count line = all_below count (λ j. is_whole (number_of (field (j + 5) line)))
 
 -- the word `quorums`
-abbrev pub quorums_word : List ℕ
-quorums_word = 113 ∷ 117 ∷ 111 ∷ 114 ∷ 117 ∷ 109 ∷ 115 ∷ []
-
--- this word is `quorums`: as long, and each byte the same
 unfoldable pub is_quorums : List ℕ → Bool
-is_quorums word = eqb (length word) 7 && all_below 7 (λ j. eqb (get_or word j 0) (get_or quorums_word j 0))
+is_quorums word = bytes_eq word (codes "quorums")
 
 -- a and b, behind so many numbers and the word `quorums`
 abbrev pub quorums_at : ℕ → List ℕ → Quorums
@@ -119,25 +117,23 @@ law_in line n m p at = record {
   start = table_of 6 line at.start 1 n 6;
 }
 
--- a group that is not there
-abbrev pub unopened : Opening → Opened
-unopened opening = record { opening = opening; settings = blank_settings }
-
 -- a group of this size, with the settings of its box 1
-abbrev pub opened_as : Sizes → Quorums → Law.Settings → Opened
-opened_as s quorums law = record { opening = Ready; settings = record { boxes = s.boxes; own = 1; quorums = quorums; law = law } }
+abbrev pub opened_as : Sizes → Quorums → Law.Settings → Result Settings Unopened
+opened_as s quorums law = Ok (record { boxes = s.boxes; own = 1; quorums = quorums; law = law })
 
 -- the group of a line whose sizes are in range
-unfoldable pub opened_with : List ℕ → Sizes → Starts → Opened
+unfoldable pub opened_with : List ℕ → Sizes → Starts → Result Settings Unopened
 opened_with line s at =
     pick (numbered at.count line)
     (opened_as s (quorums_in at.count line s.boxes) (law_in line s.n s.m s.p at))
-    (unopened Bad)
+    (Err Bad)
+
+-- the group of a line whose sizes have this refusal
+unfoldable pub opened_unless : Option Refusal → List ℕ → Sizes → Result Settings Unopened
+opened_unless (Some refusal) line s = Err (Refused refusal)
+opened_unless None line s = opened_with line s (starts_of s.n s.m s.p)
 
 -- "Where refusal 1 or 2 would refuse N, n, m or p, it prints `r1` or `r2` alone, whatever follows on that line; else a line not of this form
 -- prints `bad` alone"
-unfoldable pub opened_by : List ℕ → Sizes → Opened
-opened_by line s =
-    pick (begun (field 0 line) s)
-    (pick (eqb (sizes_refusal s) 0) (opened_with line s (starts_of s.n s.m s.p)) (unopened (Refused (sizes_refusal s))))
-    (unopened Bad)
+unfoldable pub opened_by : List ℕ → Sizes → Result Settings Unopened
+opened_by line s = pick (begun (field 0 line) s) (opened_unless (sizes_refusal s) line s) (Err Bad)

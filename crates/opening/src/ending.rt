@@ -6,38 +6,26 @@ use crate::size_in;
 use line::fields::{count_spaces, field};
 use quorums::{Quorums, majorities};
 
+#[tactic(auto, unfolding(crate::specs::Opening::is_quorums))]
 pub(crate) fn is_quorums(word: &[u8]) -> bool
     ensures { result ≡ is_quorums word.now }
 {
-    if word.len() != 7 {
-        return false;
-    }
-    let quorums = b"quorums";
-    let mut j = 0;
-    while j < 7 {
-        if word[j] != quorums[j] {
-            return false;
-        }
-        j += 1;
-    }
-    true
+    word == b"quorums".as_slice()
 }
 
 // Whether a line ends behind so many numbers, or behind ` quorums a b` with numbers from 0 to 255.
+#[tactic(auto, unfolding(crate::specs::Opening::ended, lists::specs::Choice::pick))]
 pub(crate) fn has_ended(line: &[u8], count: usize) -> bool
     requires { count ≤ 200 }
     ensures { result ≡ ended count line.now }
 {
-    if !is_quorums(field(line, count + 5)) {
-        return count_spaces(line) == count + 4;
+    if is_quorums(field(line, count + 5)) {
+        count_spaces(line) == count + 7
+            && size_in(field(line, count + 6)) <= 255
+            && size_in(field(line, count + 7)) <= 255
+    } else {
+        count_spaces(line) == count + 4
     }
-    if count_spaces(line) != count + 7 {
-        return false;
-    }
-    if 255 < size_in(field(line, count + 6)) {
-        return false;
-    }
-    size_in(field(line, count + 7)) <= 255
 }
 
 // The quorum numbers of a line with so many numbers: a and b, or the majority for both.

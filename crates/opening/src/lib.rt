@@ -7,23 +7,22 @@ pub mod wrong;
 ghost use Rattle.std.specs.Prelude.{◌≡◌, ◌*◌, ◌<◌, ◌≤◌, length, replicate, pos};
 ghost use Rattle.text.specs.Numbers.{number_of};
 ghost use Rattle.opening.specs.Opening.{size_in, sizes_in, is_rig, begun, from_one, sizes_refusal, starts_of, all_numbers, numbered, entry_of, table_of, law_in, opened_by};
-ghost use Rattle.opening.specs.Opening.{unopened as Opening·unopened};
 
 use ending::{has_ended, quorums_in};
 use line::fields::field;
-use quorums::Quorums;
+use refusal::Refusal;
 use replica::Settings;
-use text::numbers::{Number, is_whole, number_in, value_of};
+use text::numbers::number_in;
 
-// What the first line is: not of the form, refused by 1 or 2, or settings that making is to look at.
+// Why a first line opens nothing: it is not of the form, or its sizes are refused.
 #[derive(Clone, Copy)]
-pub enum Opening {
+pub enum Unopened {
     Bad,
-    Refused(u8),
-    Ready,
+    Refused(Refusal),
 }
 
 // The numbers of boxes, states, readings and commands; 256 for one that is none from 0 to 255.
+// They are no options: `begun`, of which theorem short-opening speaks, and `needed` are said of all four, whether they are sizes or not.
 #[derive(Clone, Copy)]
 struct Sizes {
     boxes: usize,
@@ -44,46 +43,28 @@ struct Starts {
     count: usize,
 }
 
-// What the first line opens: where it is ready, the settings are those of box 1.
-#[derive(Clone, Copy)]
-pub struct Opened {
-    pub opening: Opening,
-    pub settings: Settings,
-}
-
+#[tactic(auto, unfolding(crate::specs::Opening::is_rig))]
 fn is_rig(word: &[u8]) -> bool
     ensures { result ≡ is_rig word.now }
 {
-    if word.len() != 3 {
-        return false;
-    }
-    if word[0] != 114 {
-        return false;
-    }
-    if word[1] != 105 {
-        return false;
-    }
-    word[2] == 103
+    word == b"rig".as_slice()
 }
 
 // A number from 0 to 255, else 256.
+#[tactic(auto, unfolding(crate::specs::Opening::size_in, lists::specs::Choice::pick))]
 fn size_in(word: &[u8]) -> usize
     ensures { result ≡ size_in (number_of word.now) }
 {
     match number_in(word) {
-        Number::Whole(z) => {
-            if z < 0 {
-                return 256;
-            }
-            if 255 < z {
-                return 256;
-            }
-            z as usize
-        }
-        Number::Malformed => 256,
+        Some(z) => match u8::try_from(z) {
+            Ok(size) => usize::from(size),
+            Err(_) => 256,
+        },
+        None => 256,
     }
 }
 
+#[tactic(auto, unfolding(crate::specs::Opening::sizes_in))]
 fn sizes_in(line: &[u8]) -> Sizes
     ensures { result ≡ sizes_in line.now }
 {
@@ -95,54 +76,32 @@ fn sizes_in(line: &[u8]) -> Sizes
 }
 
 // Whether the line begins with `rig` and four numbers from 0 to 255.
+#[tactic(auto, unfolding(crate::specs::Opening::begun))]
 fn has_begun(word: &[u8], s: Sizes) -> bool
     ensures { result ≡ begun word.now s }
 {
-    if !is_rig(word) {
-        return false;
-    }
-    if 255 < s.boxes {
-        return false;
-    }
-    if 255 < s.n {
-        return false;
-    }
-    if 255 < s.m {
-        return false;
-    }
-    s.p <= 255
+    is_rig(word) && s.boxes <= 255 && s.n <= 255 && s.m <= 255 && s.p <= 255
 }
 
+#[tactic(auto, unfolding(crate::specs::Opening::from_one))]
 fn is_from_one(size: usize, most: usize) -> bool
     ensures { result ≡ from_one size most }
 {
-    if size == 0 {
-        return false;
-    }
-    size <= most
+    0 < size && size <= most
 }
 
-// The refusal of these numbers, or 0: 1 for the boxes, then 2 for the others.
+// The refusal of these numbers: that of the boxes before that of the others.
 #[tactic(auto, unfolding(crate::specs::Opening::sizes_refusal, lists::specs::Choice::pick))]
-fn sizes_refusal(s: Sizes) -> u8
+fn sizes_refusal(s: Sizes) -> Option<Refusal>
     ensures { result ≡ sizes_refusal s }
 {
-    if s.boxes < 3 {
-        return 1;
+    if s.boxes < 3 || 9 < s.boxes {
+        return Some(Refusal::Group);
     }
-    if 9 < s.boxes {
-        return 1;
+    if !is_from_one(s.n, 6) || !is_from_one(s.m, 4) || !is_from_one(s.p, 4) {
+        return Some(Refusal::Sizes);
     }
-    if !is_from_one(s.n, 6) {
-        return 2;
-    }
-    if !is_from_one(s.m, 4) {
-        return 2;
-    }
-    if !is_from_one(s.p, 4) {
-        return 2;
-    }
-    0
+    None
 }
 
 fn area(rows: usize, columns: usize) -> usize
@@ -152,6 +111,7 @@ fn area(rows: usize, columns: usize) -> usize
     rows * columns
 }
 
+#[tactic(auto, unfolding(crate::specs::Opening::starts_of))]
 fn starts_of(n: usize, m: usize, p: usize) -> Starts
     requires { (n ≤ 6) × (m ≤ 4) × (p ≤ 4) }
     ensures { (result ≡ starts_of n m p) × (result.l ≤ 200) × (result.c ≤ 200) × (result.k ≤ 200) × (result.low ≤ 200) × (result.high ≤ 200) × (result.start ≤ 200) × (result.count ≤ 200) }
@@ -178,41 +138,35 @@ fn all_numbers(line: &[u8], count: usize) -> bool
     requires { count ≤ 200 }
     ensures { result ≡ all_numbers count line.now }
 {
-    let mut j = 0;
-    while j < count {
-        if !is_whole(number_in(field(line, j + 5))) {
+    for j in 0..count {
+        if number_in(field(line, j + 5)).is_none() {
             return false;
         }
-        j += 1;
     }
     true
 }
 
 // Whether so many numbers stand after the sizes, and nothing else but the quorum numbers.
+#[tactic(auto, unfolding(crate::specs::Opening::numbered))]
 fn is_numbered(line: &[u8], count: usize) -> bool
     requires { count ≤ 200 }
     ensures { result ≡ numbered count line.now }
 {
-    if !has_ended(line, count) {
-        return false;
-    }
-    all_numbers(line, count)
+    has_ended(line, count) && all_numbers(line, count)
 }
 
 // Place k of a table with rows of `stride` places.
+#[tactic(auto, unfolding(crate::specs::Opening::entry_of, lists::specs::Choice::pick))]
 fn entry_in(line: &[u8], from: usize, rows: usize, columns: usize, stride: usize, k: usize) -> i32
     requires { (from ≤ 200) × (rows ≤ 6) × (columns ≤ 6) × (0 < stride) }
     ensures { result ≡ entry_of line.now from rows columns stride k }
 {
     let i = k / stride;
     let j = k % stride;
-    if rows <= i {
+    if rows <= i || columns <= j {
         return 0;
     }
-    if columns <= j {
-        return 0;
-    }
-    value_of(number_in(field(line, from + area(i, columns) + j)))
+    number_in(field(line, from + area(i, columns) + j)).unwrap_or(0)
 }
 
 // Fills a table that holds 0 from the fields of a line, row by row.
@@ -220,11 +174,8 @@ fn fill(line: &[u8], from: usize, rows: usize, columns: usize, stride: usize, ou
     requires { (from ≤ 200) × (rows ≤ 6) × (columns ≤ 6) × (0 < stride) × (out.old ≡ replicate (length out.old) (pos 0)) }
     ensures { out.new ≡ table_of (length out.old) line.now from rows columns stride }
 {
-    let mut k = 0;
-    while k < out.len() {
-        let z = entry_in(line, from, rows, columns, stride, k);
-        out[k] = z;
-        k += 1;
+    for (k, entry) in out.iter_mut().enumerate() {
+        *entry = entry_in(line, from, rows, columns, stride, k);
     }
 }
 
@@ -261,65 +212,28 @@ fn law_in(line: &[u8], n: usize, m: usize, p: usize, at: Starts) -> law::Setting
     }
 }
 
-// Nothing is opened.
-fn unopened(opening: Opening) -> Opened
-    ensures { result ≡ Opening·unopened opening }
-{
-    let law = law::Settings {
-        n: 0,
-        m: 0,
-        p: 0,
-        a: [0i32; 36],
-        l: [0i32; 24],
-        c: [0i32; 24],
-        k: [0i32; 24],
-        low: [0i32; 4],
-        high: [0i32; 4],
-        start: [0i32; 6],
-    };
-    let quorums = Quorums {
-        to_decide: 0,
-        to_propose: 0,
-    };
-    let settings = Settings {
-        boxes: 0,
-        own: 0,
-        quorums,
-        law,
-    };
-    Opened { opening, settings }
-}
-
-// The group that a first line describes.
-pub fn open(line: &[u8]) -> Opened
+// The group that a first line describes: the settings of its box 1.
+pub fn open(line: &[u8]) -> Result<Settings, Unopened>
     ensures { result ≡ opened_by line.now (sizes_in line.now) }
 {
     let s = sizes_in(line);
     if !has_begun(field(line, 0), s) {
-        return unopened(Opening::Bad);
+        return Err(Unopened::Bad);
     }
-    let number = sizes_refusal(s);
-    if number != 0 {
-        return unopened(Opening::Refused(number));
+    if let Some(refusal) = sizes_refusal(s) {
+        return Err(Unopened::Refused(refusal));
     }
-    let n = s.n;
-    let m = s.m;
-    let p = s.p;
-    let at = starts_of(n, m, p);
+    let at = starts_of(s.n, s.m, s.p);
     if !is_numbered(line, at.count) {
-        return unopened(Opening::Bad);
+        return Err(Unopened::Bad);
     }
     let boxes = s.boxes as u8;
     let quorums = quorums_in(line, at.count, boxes);
-    let law = law_in(line, n, m, p, at);
-    let settings = Settings {
+    let law = law_in(line, s.n, s.m, s.p, at);
+    Ok(Settings {
         boxes,
         own: 1,
         quorums,
         law,
-    };
-    Opened {
-        opening: Opening::Ready,
-        settings,
-    }
+    })
 }

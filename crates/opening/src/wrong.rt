@@ -1,27 +1,26 @@
 // What is wrong with a first line of `rig`, for its message on standard error.
 ghost use Rattle.std.specs.Prelude.{◌≡◌, ◌≤◌};
-ghost use Rattle.opening.specs.Wrong.{is_right, first_wrong, needed as Wrong·needed, wrong_quorum, wrong_end, wrong_form, wrong_settings, wrong_by, wrong_in};
+ghost use Rattle.opening.specs.Wrong.{is_right, first_wrong, needed as Wrong·needed, wrong_quorum, wrong_end, wrong_form, wrong_settings, wrong_in};
 
 use crate::ending::is_quorums;
-use crate::{Opening, Sizes, is_rig, open, size_in, sizes_in, sizes_refusal, starts_of};
+use crate::{Sizes, Unopened, is_rig, open, size_in, sizes_in, sizes_refusal, starts_of};
 use line::fields::{count_spaces, field};
+use refusal::Refusal;
 use replica::{Replica, Settings};
-use scram::Answer;
-use text::numbers::{is_whole, number_in};
-use text::printing::at_most;
+use text::numbers::number_in;
 
-// Nothing, a field (counted from 1), a quorum number (by its field, counted from 1), how many fields there are and how many are needed, or the settings,
-// by the number of their refusal.
+// A field (counted from 1), a quorum number (by its field, counted from 1), how many fields there are and how many are needed, or the settings,
+// by their refusal.
 #[derive(Clone, Copy)]
 pub enum Wrong {
-    Nothing,
     Field(usize),
     Quorum(usize),
     Fields(usize, usize),
-    Refused(u8),
+    Refused(Refusal),
 }
 
 // Whether a word is what field k should be.
+#[tactic(auto, unfolding(crate::specs::Wrong::is_right, lists::specs::Choice::pick))]
 fn is_right(k: usize, word: &[u8]) -> bool
     ensures { result ≡ is_right k word.now }
 {
@@ -31,28 +30,26 @@ fn is_right(k: usize, word: &[u8]) -> bool
     if k < 5 {
         return size_in(word) <= 255;
     }
-    is_whole(number_in(word))
+    number_in(word).is_some()
 }
 
 // The first of so many fields that is not what it should be.
 fn first_wrong(line: &[u8], count: usize) -> usize
     ensures { (result ≡ first_wrong line.now 0 count) × (result ≤ count) }
 {
-    let mut k = 0;
-    while k < count {
+    for k in 0..count {
         if !is_right(k, field(line, k)) {
             return k;
         }
-        k += 1;
     }
-    k
+    count
 }
 
 // How many fields a line with these sizes needs.
 fn needed(s: Sizes) -> usize
     ensures { (result ≡ Wrong·needed s) × (result ≤ 205) }
 {
-    if sizes_refusal(s) != 0 {
+    if sizes_refusal(s).is_some() {
         return 5;
     }
     let at = starts_of(s.n, s.m, s.p);
@@ -60,16 +57,15 @@ fn needed(s: Sizes) -> usize
 }
 
 // Whether field k of so many is there, and is no number from 0 to 255.
+#[tactic(auto, unfolding(crate::specs::Wrong::wrong_quorum))]
 fn is_wrong_quorum(line: &[u8], fields: usize, k: usize) -> bool
     ensures { result ≡ wrong_quorum line.now fields k }
 {
-    if fields <= k {
-        return false;
-    }
-    255 < size_in(field(line, k))
+    k < fields && 255 < size_in(field(line, k))
 }
 
 // What is wrong behind so many fields that a line needs.
+#[tactic(auto, unfolding(crate::specs::Wrong::wrong_end, lists::specs::Choice::pick))]
 fn wrong_end(line: &[u8], fields: usize, needs: usize) -> Wrong
     requires { needs ≤ 205 }
     ensures { result ≡ wrong_end line.now fields needs }
@@ -87,11 +83,12 @@ fn wrong_end(line: &[u8], fields: usize, needs: usize) -> Wrong
 }
 
 // What is wrong with the form of a line that has so many fields.
+#[tactic(auto, unfolding(crate::specs::Wrong::wrong_form, lists::specs::Choice::pick))]
 fn wrong_form(line: &[u8], fields: usize, needs: usize) -> Wrong
     requires { needs ≤ 205 }
     ensures { result ≡ wrong_form line.now fields needs }
 {
-    let count = at_most(fields, needs);
+    let count = fields.min(needs);
     let k = first_wrong(line, count);
     if k < count {
         return Wrong::Field(k + 1);
@@ -100,35 +97,24 @@ fn wrong_form(line: &[u8], fields: usize, needs: usize) -> Wrong
 }
 
 // What is wrong with settings.
-fn wrong_settings(settings: Settings) -> Wrong
+fn wrong_settings(settings: Settings) -> Option<Wrong>
     ensures { result ≡ wrong_settings settings }
 {
-    let made = Replica::make(settings);
-    let answer = made.answer;
-    match answer {
-        Answer::Done => Wrong::Nothing,
-        Answer::Ignored => Wrong::Nothing,
-        Answer::Refused(number) => Wrong::Refused(number),
-    }
-}
-
-// What is wrong with a line that opens this.
-fn wrong_by(line: &[u8], opening: Opening, settings: Settings) -> Wrong
-    ensures { result ≡ wrong_by line.now opening settings }
-{
-    match opening {
-        Opening::Bad => wrong_form(line, count_spaces(line) + 1, needed(sizes_in(line))),
-        Opening::Refused(number) => Wrong::Refused(number),
-        Opening::Ready => wrong_settings(settings),
-    }
+    Replica::make(settings).err().map(Wrong::Refused)
 }
 
 // What is wrong with a line.
-pub fn wrong_in(line: &[u8]) -> Wrong
+#[tactic(auto, unfolding(crate::specs::Wrong::wrong_in, crate::specs::Wrong::wrong_by))]
+pub fn wrong_in(line: &[u8]) -> Option<Wrong>
     ensures { result ≡ wrong_in line.now }
 {
-    let first = open(line);
-    let opening = first.opening;
-    let settings = first.settings;
-    wrong_by(line, opening, settings)
+    match open(line) {
+        Ok(settings) => wrong_settings(settings),
+        Err(Unopened::Refused(refusal)) => Some(Wrong::Refused(refusal)),
+        Err(Unopened::Bad) => Some(wrong_form(
+            line,
+            count_spaces(line) + 1,
+            needed(sizes_in(line)),
+        )),
+    }
 }

@@ -4,7 +4,7 @@
 
 mod messages;
 
-use console::CHUNK;
+use console::{CHUNK, Gathered};
 use printed::output::OUTPUT;
 
 // One line more than is looked at, each cut at 2,048 bytes, and their line feeds.
@@ -26,11 +26,9 @@ fn run(
     text: &mut [u8; TEXT],
     output: &mut [u8; OUTPUT],
 ) {
-    let mut gathered = console::nothing();
-    let mut turns = u64::MAX;
-    while 0 < turns {
-        turns -= 1;
-        gathered = console::read_more(rt, gathered, LINES, chunk, text);
+    let mut gathered = Gathered::new();
+    for _ in 0..u64::MAX {
+        gathered = gathered.read_more(rt, LINES, chunk, text);
         if gathered.ended {
             print(rt, console::first(text, gathered.end), output);
             messages::say_cut(&rt.stderr(), gathered.lines, gathered.column);

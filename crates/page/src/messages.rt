@@ -1,5 +1,5 @@
 // What is said on standard error.
-use text::printing::{at_most, put_decimal, put_word};
+use text::printing::{put_decimal, put_word};
 
 // Every message has room.
 const MESSAGE: usize = 64;
@@ -14,7 +14,7 @@ pub(crate) fn say_passed(stderr: &impl Print, passed: usize) {
     }
     let mut message = [0u8; MESSAGE];
     let at = put_word(&mut message, 0, b"page: lines passed over: ");
-    let at = put_decimal(&mut message, at, at_most(passed, 4294967295) as u32);
+    let at = put_decimal(&mut message, at, passed.min(4294967295) as u32);
     let at = put_word(&mut message, at, b"\n");
     console::write_error(stderr, &message, at);
 }

@@ -1,7 +1,7 @@
 -- Laws of text in columns. Assumes nothing.
 use mathlib.Core.Path.{◌≡◌, refl, sym, ap, ◌∙◌}
 use mathlib.Core.List.{List, [], ◌∷◌, ◌++◌, append-nil, append_assoc}
-use Prim.Native.Nat.{ℕ, zero, suc, ◌+◌, ◌*◌, ◌-◌, ◌≤◌, ◌<◌}
+use Prim.Native.Nat.{ℕ, zero, suc, ◌+◌, ◌*◌, ◌≤◌, ◌<◌}
 use native.Mathlib.Omega.{arith}
 use lib.IntN.{ℤ}
 use lib.ListN.{length, take, drop, length-append, length-replicate}
@@ -18,9 +18,9 @@ pub put-end : {area area' more : List ℕ} {at r : ℕ} → Puts area at more r 
 put-end {area} {area'} {more} {at} {r} p =
     omega (arith, p.count, ap length p.bytes, length-append (with (length area) (take at area) more) (drop r area))
 
--- at the start of an area that has room for it, it stands there whole: `&area[0..r]`
-pub put_alone : {area area' more : List ℕ} {r : ℕ} → length more ≤ length area → Puts area 0 more r area' → take (r - 0) (drop 0 area') ≡ more
-put_alone {more = more} {r = r} h p = let e : r - 0 ≡ r = omega arith in rw e (put-within (omega arith) p).text
+-- at the start of an area that has room for it, it stands there whole: `&area[..r]`
+pub put_alone : {area area' more : List ℕ} {r : ℕ} → length more ≤ length area → Puts area 0 more r area' → take r area' ≡ more
+put_alone h p = (put-within (omega arith) p).text
 
 -- ---- columns
 

@@ -1,17 +1,19 @@
 -- Laws of a page's lines: how long they are, and how they are put together. Assumes nothing.
 use mathlib.Core.Path.{◌≡◌, refl, sym, ap, ◌∙◌}
-use mathlib.Core.Bool.{Bool, true, false}
 use mathlib.Core.List.{List, [], ◌∷◌, ◌++◌, map, append-nil, append_assoc}
 use Prim.Native.Nat.{ℕ, zero, suc, ◌+◌, ◌*◌, ◌-◌, ◌≤◌, ◌<◌}
 use native.Mathlib.Omega.{arith}
 use lib.ListN.{length, take, get_or, length-append, length-replicate, length-take, length-map}
+use lib.IntN.{ℤ}
 use lib.Seq.{length-take-le}
+use Rattle.std.specs.Prelude.{Option, None, Some, IfSome}
+use Rattle.std.specs.Option.{is_some}
 use Rattle.lists.specs.Choice.{pick}
-use Rattle.lists.proofs.Choice.{pick_true, pick-false}
 use Rattle.text.specs.Printing.{decimal}
-use Rattle.text.proofs.PrintingLengths.{pick-length, decimal-length}
+use Rattle.text.proofs.PrintingLengths.{decimal-length}
 use Rattle.pages.specs.declared.entries.Entry.{Entry}
-use Rattle.pages.specs.Line.{spaces, right, command_columns, hyphen, commands_shown, line_text, to_the_end, line_bytes, line_length}
+use Rattle.pages.specs.Entries.{decided}
+use Rattle.pages.specs.Line.{spaces, right, hyphen, command_shown, commands_shown, line_text, to_the_end, line_bytes, line_length}
 use Rattle.pages.specs.Page.{page_bytes}
 use Rattle.pages.proofs.ColumnLaws.{right-length, commands-length}
 
@@ -22,23 +24,26 @@ length-mapped X Y f l n e = sym (length-map l f) ∙ e
 -- an entry that has four values, and a p that is at most 4
 pub record Shown (p : ℕ) (e : Entry) : Type 0 where
   pub few : p ≤ 4
-  pub four : length e.command ≡ 4
+  pub four : IfSome e.command (λ c. length c ≡ 4)
+
+-- the commands take at most 48 columns
+command-short : (p : ℕ) (o : Option (List ℤ)) → p ≤ 4 → length (command_shown p o) ≤ 48
+unfolding command_shown hyphen
+command-short p (Some c) h = omega (arith, commands-length (take p c), length-take p c)
+command-short p None h = omega (arith, right-length 12 (45 ∷ []) (omega arith))
 
 module _ (p : ℕ) (e : Entry) (s : Shown p e) where
   -- the commands, or the hyphen, fill their columns
-  pub shown-length : length (commands_shown p e) ≡ 12 * pick e.decided p 1
-  unfolding commands_shown hyphen
-  shown-length = by e.decided
+  pub shown-length : length (commands_shown p e) ≡ 12 * pick (decided e) p 1
+  unfolding commands_shown command_shown hyphen pick
+  shown-length = by e.command s.four
     where
-      by : (t : Bool) → length (pick t (command_columns (take p e.command)) (right 12 (45 ∷ []))) ≡ 12 * pick t p 1
-      by true =
-          ap length (pick_true true _ _ refl)
-          ∙ commands-length (take p e.command)
-          ∙ ap (λ (k : ℕ). 12 * k) (length-take-le p e.command (omega (arith, s.few, s.four)) ∙ sym (pick_true true p 1 refl))
-      by false = ap length (pick-false false _ _ refl) ∙ right-length 12 (45 ∷ []) (omega arith) ∙ ap (λ (k : ℕ). 12 * k) (sym (pick-false false p 1 refl))
+      by : (o : Option (List ℤ)) → IfSome o (λ c. length c ≡ 4) → length (command_shown p o) ≡ 12 * pick (is_some o) p 1
+      by (Some c) four = commands-length (take p c) ∙ ap (λ (k : ℕ). 12 * k) (length-take-le p c (omega (arith, s.few, four)))
+      by None four = right-length 12 (45 ∷ []) (omega arith)
 
   -- the text of a line is 22 columns before the commands
-  pub text-length : length (line_text p e) ≡ 22 + 12 * pick e.decided p 1
+  pub text-length : length (line_text p e) ≡ 22 + 12 * pick (decided e) p 1
   unfolding line_text
   text-length =
       let period = right-length 10 (decimal e.period) (decimal-length e.period) in
@@ -47,7 +52,7 @@ module _ (p : ℕ) (e : Entry) (s : Shown p e) where
       simp length-append (omega arith)
 
   -- a line is its parts, one after the other
-  pub line-parts : (k : ℕ) → k ≡ 50 - 12 * pick e.decided p 1
+  pub line-parts : (k : ℕ) → k ≡ 50 - 12 * pick (decided e) p 1
       → right 10 (decimal e.period) ++ (32 ∷ []) ++ right 10 (decimal e.view) ++ (32 ∷ []) ++ commands_shown p e ++ spaces k ++ (10 ∷ [])
       ≡ line_bytes p e
   unfolding line_bytes to_the_end line_text
@@ -61,12 +66,11 @@ module _ (p : ℕ) (e : Entry) (s : Shown p e) where
 
 -- "lines of exactly 72 bytes plus a line feed", since the commands, or the hyphen, take at most 48
 pub line-length : (p : ℕ) (e : Entry) → p ≤ 4 → length (line_bytes p e) ≡ line_length
-unfolding line_bytes to_the_end line_text commands_shown hyphen
+unfolding line_bytes to_the_end line_text commands_shown
 line-length p e h =
     let period = right-length 10 (decimal e.period) (decimal-length e.period) in
     let view = right-length 10 (decimal e.view) (decimal-length e.view) in
-    let rest = pick-length e.decided (command_columns (take p e.command)) (right 12 (45 ∷ [])) 48
-    (omega (arith, commands-length (take p e.command), length-take p e.command)) (omega (arith, right-length 12 (45 ∷ []) (omega arith))) in
+    let rest = command-short p e.command h in
     simp (length-append, length-replicate) (omega arith)
 
 -- a page has as many bytes as its lines have together

@@ -1,17 +1,19 @@
 -- A line that is written reads as the entry that it shows: `line_reads`. Assumes nothing.
 use mathlib.Core.Path.{◌≡◌, refl, sym, ap, ◌∙◌, subst}
-use mathlib.Core.Bool.{Bool, true, false, not}
+use mathlib.Core.Bool.{true, false, not}
 use mathlib.Core.List.{List, [], ◌∷◌, ◌++◌, append_assoc}
 use Prim.Native.Nat.{ℕ, zero, suc, ◌+◌, ◌*◌, ◌-◌, ◌%◌, ◌≤◌, ◌<◌, ◌^◌}
 use native.Mathlib.Omega.{arith}
 use lib.IntN.{ℤ, pos, negsuc}
-use lib.Dec.{eqb}
+use Rattle.std.specs.Prelude.{Option, None, Some, IfSome}
+use Rattle.std.specs.Option.{option_map}
 use lib.ListN.{length, take, drop, get_or, length-append, get_or-append}
 use lib.Seq.{take_at, drop_at, get_or-append-add, get_or-append_seam, length-take-le, get_or-take}
 use mir.Syntax.{w32}
 use mir.Val.{SFits}
 use borrow.Author.Tests.{eq-eqb, ne_eqb}
 use Rattle.lists.specs.Choice.{pick}
+use Rattle.lists.specs.I32.{AllI32}
 use Rattle.lists.specs.Places.{entry, filled}
 use Rattle.lists.proofs.Choice.{pick_true, pick-false}
 use Rattle.lists.proofs.Places.{filled-same}
@@ -22,7 +24,7 @@ use Rattle.text.proofs.PrintingLengths.{decimal-length, signed-length}
 use Rattle.text.proofs.RoundTrip.{decimal-leads, decimal-ends, magnitude-printed, reads-printed}
 use Rattle.pages.specs.declared.entries.Entry.{Entry}
 use Rattle.pages.specs.Entries.{Typed, shown}
-use Rattle.pages.specs.Line.{spaces, right, command_columns, hyphen, commands_shown, line_text, to_the_end, line_bytes}
+use Rattle.pages.specs.Line.{spaces, right, command_columns, hyphen, command_shown, commands_shown, line_text, to_the_end, line_bytes}
 use Rattle.pages.specs.Reading.{unspaced, count_at, value_at, decided_in, entry_in}
 use Rattle.pages.proofs.ColumnLaws.{right-length, commands-length}
 
@@ -64,12 +66,10 @@ signed-starts (pos n) s = let h : n < 2147483648 = s.sfits in decimal-starts n (
 signed-starts (negsuc k) s = record { b = 45; rest = decimal (suc k); is = refl; other = λ z. omega arith }
 
 count-in-columns : (n : ℕ) → n < 2 ^ 32 → size_in (magnitude (unspaced (right 10 (decimal n)))) ≡ n
-unfolding size_in
 count-in-columns n h =
     ap (λ (l : List ℕ). size_in (magnitude l)) (unspaced-right 10 (decimal n) (decimal-starts n h)) ∙ ap size_in (magnitude-printed n (omega arith))
 
 value-in-columns : (z : ℤ) → SFits w32 z → value_in (number_of (unspaced (right 12 (signed z)))) ≡ z
-unfolding value_in
 value-in-columns z s =
     ap (λ (l : List ℕ). value_in (number_of l)) (unspaced-right 12 (signed z) (signed-starts z s)) ∙ ap value_in (reads-printed z s)
 
@@ -176,88 +176,99 @@ module _ (p : ℕ) (e : Entry) where
       ap (λ (l : List ℕ). right 12 (signed z) ++ l) (columns-at zs j (omega arith)) ∙ sym (append_assoc (right 12 (signed z)) _ _)
 
   module _ (some : 1 ≤ p) (few : p ≤ 4) (t : Typed e) where
-    abbrev values : List ℤ
-    values = take p e.command
+    -- there is no command
+    module _ (is : e.command ≡ None) where
+      shown-hyphen : commands_shown p e ≡ right 12 (45 ∷ [])
+      unfolding commands_shown command_shown hyphen
+      shown-hyphen = ap (command_shown p) is
 
-    values_length : length values ≡ p
-    values_length = length-take-le p e.command (omega (arith, t.places))
+      reads-hyphen : decided_in (line_bytes p e) ≡ false
+      unfolding decided_in
+      reads-hyphen =
+          let column : get_or (line_bytes p e) 33 0 ≡ 45 =
+          column-33
+          ∙ ap (λ (l : List ℕ). get_or (l ++ behind) 11 0) shown-hyphen
+          ∙ get_or-append (right 12 (45 ∷ [])) behind 0 11 (omega (arith, right-length 12 (45 ∷ []) (omega arith)))
+          ∙ right-last [] 45 (omega arith) in
+          ap not (eq-eqb _ 45 column)
 
-    shown-decided : e.decided ≡ true → commands_shown p e ≡ command_columns values
-    unfolding commands_shown
-    shown-decided d = pick_true _ _ _ d
+    -- there is one
+    module _ (c : List ℤ) (is : e.command ≡ Some c) where
+      four : length c ≡ 4
+      four = subst (λ (o : Option (List ℤ)). IfSome o (λ v. length v ≡ 4)) is t.places
 
-    shown-hyphen : e.decided ≡ false → commands_shown p e ≡ right 12 (45 ∷ [])
-    unfolding commands_shown hyphen
-    shown-hyphen d = pick-false _ _ _ d
+      fits : AllI32 c
+      fits = subst (λ (o : Option (List ℤ)). IfSome o AllI32) is t.values
 
-    reads-value : e.decided ≡ true → (j : ℕ) → j < p → value_at (line_bytes p e) j ≡ entry e.command j
-    unfolding value_at
-    reads-value d j h =
-        ap (λ (l : List ℕ). value_in (number_of (unspaced (part l (22 + 12 * j) 12)))) whole
-        ∙ ap (λ (l : List ℕ). value_in (number_of (unspaced l))) (part-between (middle ++ before) here _ (22 + 12 * j) 12 start (right-length 12 (signed z) (omega (arith, signed-length z))))
-        ∙ value-in-columns z (subst (SFits w32) (sym same) (t.values j))
-        ∙ same
-      where
-        z : ℤ
-        z = entry values j
+      abbrev values : List ℤ
+      values = take p c
 
-        same : z ≡ entry e.command j
-        same = get_or-take p e.command j (pos 0) h
+      values_length : length values ≡ p
+      values_length = length-take-le p c (omega (arith, four))
 
-        before : List ℕ
-        before = command_columns (take j values)
+      shown-decided : commands_shown p e ≡ command_columns values
+      unfolding commands_shown command_shown
+      shown-decided = ap (command_shown p) is
 
-        here : List ℕ
-        here = right 12 (signed z)
+      reads-value : (j : ℕ) → j < p → value_at (line_bytes p e) j ≡ entry c j
+      unfolding value_at
+      reads-value j h =
+          ap (λ (l : List ℕ). value_in (number_of (unspaced (part l (22 + 12 * j) 12)))) whole
+          ∙ ap (λ (l : List ℕ). value_in (number_of (unspaced l))) (part-between (middle ++ before) here _ (22 + 12 * j) 12 start (right-length 12 (signed z) (omega (arith, signed-length z))))
+          ∙ value-in-columns z (subst (SFits w32) (sym same) (fits j))
+          ∙ same
+        where
+          z : ℤ
+          z = entry values j
 
-        after : List ℕ
-        after = command_columns (drop (suc j) values)
+          same : z ≡ entry c j
+          same = get_or-take p c j (pos 0) h
 
-        start : length (middle ++ before) ≡ 22 + 12 * j
-        start =
-            omega (
-              arith,
-              length-append middle before,
-              middle-length,
-              commands-length (take j values),
-              length-take-le j values (omega (arith, values_length)),
-            )
+          before : List ℕ
+          before = command_columns (take j values)
 
-        whole : line_bytes p e ≡ (middle ++ before) ++ (here ++ (after ++ behind))
-        whole =
-            from-commands
-            ∙ ap (λ (l : List ℕ). middle ++ (l ++ behind)) (shown-decided d ∙ columns-at values j (omega (arith, values_length)))
-            ∙ simp append_assoc refl
+          here : List ℕ
+          here = right 12 (signed z)
 
-    reads-decided : decided_in (line_bytes p e) ≡ e.decided
-    unfolding decided_in command_columns
-    reads-decided = by e.decided refl
-      where
-        by : (b : Bool) → e.decided ≡ b → not (eqb (get_or (line_bytes p e) 33 0) 45) ≡ e.decided
-        by true d =
-            let z = entry values 0 in
-            let column : get_or (line_bytes p e) 33 0 ≡ get_or (right 12 (signed z)) 11 0 =
-            column-33
-            ∙ ap (λ (l : List ℕ). get_or (l ++ behind) 11 0) (shown-decided d ∙ columns-at values 0 (omega (arith, values_length)))
-            ∙ ap (λ (l : List ℕ). get_or l 11 0) {y = right 12 (signed z) ++ (command_columns (drop 1 values) ++ behind)} (append_assoc (right 12 (signed z)) _ behind)
-            ∙ get_or-append (right 12 (signed z)) _ 0 11 (omega (arith, right-length 12 (signed z) (omega (arith, signed-length z)))) in
-            ap not (ne_eqb _ 45 (λ h. right-signed z (sym column ∙ h))) ∙ sym d
-        by false d =
-            let column : get_or (line_bytes p e) 33 0 ≡ 45 =
-            column-33
-            ∙ ap (λ (l : List ℕ). get_or (l ++ behind) 11 0) (shown-hyphen d)
-            ∙ get_or-append (right 12 (45 ∷ [])) behind 0 11 (omega (arith, right-length 12 (45 ∷ []) (omega arith)))
-            ∙ right-last [] 45 (omega arith) in
-            ap not (eq-eqb _ 45 column) ∙ sym d
+          after : List ℕ
+          after = command_columns (drop (suc j) values)
+
+          start : length (middle ++ before) ≡ 22 + 12 * j
+          start =
+              omega (
+                arith,
+                length-append middle before,
+                middle-length,
+                commands-length (take j values),
+                length-take-le j values (omega (arith, values_length)),
+              )
+
+          whole : line_bytes p e ≡ (middle ++ before) ++ (here ++ (after ++ behind))
+          whole =
+              from-commands
+              ∙ ap (λ (l : List ℕ). middle ++ (l ++ behind)) (shown-decided ∙ columns-at values j (omega (arith, values_length)))
+              ∙ simp append_assoc refl
+
+      reads-decided : decided_in (line_bytes p e) ≡ true
+      unfolding decided_in command_columns
+      reads-decided =
+          let z = entry values 0 in
+          let column : get_or (line_bytes p e) 33 0 ≡ get_or (right 12 (signed z)) 11 0 =
+          column-33
+          ∙ ap (λ (l : List ℕ). get_or (l ++ behind) 11 0) (shown-decided ∙ columns-at values 0 (omega (arith, values_length)))
+          ∙ ap (λ (l : List ℕ). get_or l 11 0) {y = right 12 (signed z) ++ (command_columns (drop 1 values) ++ behind)} (append_assoc (right 12 (signed z)) _ behind)
+          ∙ get_or-append (right 12 (signed z)) _ 0 11 (omega (arith, right-length 12 (signed z) (omega (arith, signed-length z)))) in
+          ap not (ne_eqb _ 45 (λ h. right-signed z (sym column ∙ h)))
 
     -- the entry that it shows
     pub line_reads : entry_in p (line_bytes p e) ≡ shown p e
     unfolding entry_in shown
     line_reads =
-        rw (reads-period t.period, reads-view t.view, reads-decided)
-        (ap (λ (c : List ℤ). record { period = e.period; view = e.view; decided = e.decided; command = c }) (by e.decided refl))
+        rw (reads-period t.period, reads-view t.view)
+        (ap (λ (o : Option (List ℤ)). record { period = e.period; view = e.view; command = o }) (by e.command refl))
       where
-        by : (b : Bool) → e.decided ≡ b
-            → filled (pos 0) 4 (pick e.decided p 0) (value_at (line_bytes p e)) ≡ filled (pos 0) 4 (pick e.decided p 0) (entry e.command)
-        by true d = filled-same (pos 0) 4 (pick e.decided p 0) _ _ (λ i h k. reads-value d i (omega (arith, pick_true e.decided p 0 d)))
-        by false d = filled-same (pos 0) 4 (pick e.decided p 0) _ _ (λ i h k. absurd (omega (arith, pick-false e.decided p 0 d)))
+        by : (o : Option (List ℤ)) → e.command ≡ o
+            → pick (decided_in (line_bytes p e)) (Some (filled (pos 0) 4 p (value_at (line_bytes p e)))) None
+            ≡ option_map (λ c. filled (pos 0) 4 p (entry c)) o
+        by (Some c) is = pick_true _ _ _ (reads-decided c is) ∙ ap Some (filled-same (pos 0) 4 p _ _ (λ i h k. reads-value c is i h))
+        by None is = pick-false _ _ _ (reads-hyphen is)

@@ -18,6 +18,7 @@ use Rattle.lists.specs.Choice.{pick}
 use Rattle.lists.proofs.Booleans.{both, or-true}
 use Rattle.lists.proofs.Choice.{pick_true, pick-false, pick-holds}
 use Rattle.pages.specs.declared.entries.Entry.{Entry}
+use Rattle.pages.specs.Entries.{decided}
 use Rattle.pages.specs.Page.{standing, placed, on_page, rises}
 
 -- ---- two periods
@@ -59,7 +60,7 @@ module _ (e q : Entry) (qs : List Entry) where
 -- whichever stands, it is of their period
 pub standing-period : (e q : Entry) → e.period ≡ q.period → (standing e q).period ≡ q.period
 unfolding standing
-standing-period e q h = pick-holds (λ (s : Entry). s.period ≡ q.period) (not e.decided && q.decided) q e (λ _. refl) (λ _. h)
+standing-period e q h = pick-holds (λ (s : Entry). s.period ≡ q.period) (not (decided e) && decided q) q e (λ _. refl) (λ _. h)
 
 -- ---- periods that rise
 

@@ -1,18 +1,20 @@
 -- Laws of reading a page back. Assumes nothing.
 use mathlib.Core.Path.{◌≡◌, refl, sym, ap, ap₂, ◌∙◌}
-use mathlib.Core.Bool.{true, false, not}
+use mathlib.Core.Bool.{Bool, true, false, not, ◌&&◌}
 use mathlib.Core.List.{List, [], ◌∷◌}
 use Prim.Native.Nat.{ℕ, zero, suc, ◌+◌, ◌-◌, ◌*◌, ◌/◌, ◌≤◌, ◌<◌}
 use native.Mathlib.Omega.{arith}
-use native.Mathlib.Numerals.{add-one}
-use lib.Dec.{eqb, leb, eqb-suc-zero}
+use lib.Dec.{eqb, leb, ltb, eqb-suc-zero}
 use lib.ListN.{length, drop, take, get_or, replicate, length-drop}
-use lib.Seq.{drop-cons, drop-drop, slice-cons, length-take-le}
-use borrow.Author.Tests.{eq-eqb, eqb-true, not-false, ne_eqb, lt-ltb, le-ltb, le-leb, lt-leb, leb-true}
+use lib.Seq.{drop-drop, length-take-le}
+use borrow.Author.Tests.{eq-eqb, eqb-true, not-false, le-leb, lt-leb, leb-true}
+use Rattle.std.specs.Prelude.{cond, slice_index_or, nat_eq}
+use Rattle.std.specs.List.{AllAdjacentBelow, IsAllAdjacentAnswer, prefix_len}
+use Rattle.std.specs.Cmp.Lexicographic.{pointwise}
+use Rattle.lists.specs.Choice.{pick}
 use Rattle.lists.specs.Places.{filled}
 use Rattle.lists.proofs.Booleans.{both, never, second-fails}
 use Rattle.lists.proofs.Choice.{pick_true, pick-false}
-use Rattle.lists.proofs.Parts.{drop-beyond}
 use Rattle.lists.proofs.Places.{filled_none, filled-same, take-filled}
 use Rattle.lists.proofs.Refusals.{none-holds, first_holds, first-fails, passed}
 use Rattle.octets.specs.Words.{part}
@@ -32,31 +34,28 @@ part-to bytes a k = let e : a + k - a ≡ k = omega arith in rw e
 pub part-to-length : (bytes : List ℕ) (a k : ℕ) → a + k ≤ length bytes → length (take (a + k - a) (drop a bytes)) ≡ k
 part-to-length bytes a k h = ap length (part-to bytes a k) ∙ length-take-le k (drop a bytes) (omega (arith, length-drop a bytes))
 
-module _ (columns : List ℕ) (i : ℕ) (h : i < length columns) where
-  -- a space on the left is passed over
-  pub unspaced-space : get_or columns i 0 ≡ 32 → unspaced (drop i columns) ≡ unspaced (drop (i + 1) columns)
-  unfolding unspaced
-  unspaced-space e = rw (add-one, drop-cons columns i 0 h) (pick_true _ _ _ (eq-eqb _ _ e))
+-- what is left behind the spaces on the left: `&columns[spaces..]`
+pub unspaced-prefix : (columns : List ℕ) → unspaced columns ≡ drop (prefix_len (λ b. eqb b 32) columns) columns
+unfolding unspaced pick
+unspaced-prefix [] = refl
+unspaced-prefix (b ∷ bs) = by (eqb b 32) (unspaced-prefix bs)
+  where
+    n : ℕ
+    n = prefix_len (λ b. eqb b 32) bs
 
-  -- any other byte is not
-  pub unspaced-other : (get_or columns i 0 ≡ 32 → ⊥) → unspaced (drop i columns) ≡ drop i columns
-  unfolding unspaced
-  unspaced-other n = rw (drop-cons columns i 0 h) (pick-false _ _ _ (ne_eqb _ _ n))
-
--- nothing is left behind the last column
-pub unspaced-none : (columns : List ℕ) (i : ℕ) → length columns ≤ i → unspaced (drop i columns) ≡ drop i columns
-unfolding unspaced
-unspaced-none columns i h = rw (drop-beyond columns i h)
+    by : (space : Bool) → unspaced bs ≡ drop n bs → pick space (unspaced bs) (b ∷ bs) ≡ drop (cond space (1 + n) 0) (b ∷ bs)
+    by true rest = let e : 1 + n ≡ suc n = omega arith in rest ∙ ap (λ (k : ℕ). drop k (b ∷ bs)) (sym e)
+    by false rest = refl
 
 -- ---- the same bytes
 
--- lists of two lengths are not the same
-pub same-lengths : (a b : List ℕ) → (length a ≡ length b → ⊥) → same a b ≡ false
+-- `a == b`
+pub same_equal : (a b : List ℕ) → pointwise nat_eq a b ≡ same a b
 unfolding same
-same-lengths [] [] n = absurd (n refl)
-same-lengths [] (y ∷ ys) n = refl
-same-lengths (x ∷ xs) [] n = refl
-same-lengths (x ∷ xs) (y ∷ ys) n = second-fails (eqb x y) _ (same-lengths xs ys (λ e. n (ap suc e)))
+same_equal [] [] = refl
+same_equal [] (y ∷ ys) = refl
+same_equal (x ∷ xs) [] = refl
+same_equal (x ∷ xs) (y ∷ ys) = ap (λ (t : Bool). eqb x y && t) (same_equal xs ys)
 
 pub same_self : (a : List ℕ) → same a a ≡ true
 unfolding same
@@ -70,60 +69,32 @@ same_true [] (y ∷ ys) h = never h
 same_true (x ∷ xs) [] h = never h
 same_true (x ∷ xs) (y ∷ ys) h = let t = both (eqb x y) (same xs ys) h in ap₂ (λ (c : ℕ) (l : List ℕ). c ∷ l) (eqb-true x y t.0) (same_true xs ys t.1)
 
-module _ (a b : List ℕ) (i : ℕ) (l : length a ≡ length b) where
-  -- bytes that agree leave the rest to be compared
-  pub same_next : i < length a → get_or a i 0 ≡ get_or b i 0 → same (drop i a) (drop i b) ≡ same (drop (i + 1) a) (drop (i + 1) b)
-  unfolding same
-  same_next h e =
-      let k : i < length b = omega arith in
-      rw (add-one, drop-cons a i 0 h, drop-cons b i 0 k, eq-eqb _ _ e)
-
-  -- bytes that do not decide
-  pub same-differ : i < length a → (get_or a i 0 ≡ get_or b i 0 → ⊥) → same (drop i a) (drop i b) ≡ false
-  unfolding same
-  same-differ h n =
-      let k : i < length b = omega arith in
-      rw (drop-cons a i 0 h, drop-cons b i 0 k, ne_eqb _ _ n)
-
-  -- nothing is left to be compared
-  pub same_none : length a ≤ i → same (drop i a) (drop i b) ≡ true
-  unfolding same
-  same_none h = let k : length b ≤ i = omega arith in rw (drop-beyond a i h, drop-beyond b i k)
-
 -- ---- rising periods
 
--- an entry alone rises
-few-rise : (es : List Entry) → length es ≤ 1 → rises es ≡ true
+-- they rise where each is below the next
+all-rise : (es : List Entry) → AllAdjacentBelow (λ x y. true ≡ ltb x.period y.period) es (length es) → true ≡ rises es
 unfolding rises
-few-rise [] h = refl
-few-rise (e ∷ []) h = refl
-few-rise (e ∷ q ∷ qs) h = absurd (omega arith)
+all-rise [] h = refl
+all-rise (e ∷ []) h = refl
+all-rise (e ∷ q ∷ qs) h =
+    rw (sym (h 0 e (omega arith)))
+    (all-rise (q ∷ qs) (λ k d m. let z : suc k + 1 ≡ suc (k + 1) = omega arith in let next = h (suc k) d (omega arith) in rw z at next))
 
-module _ (lines : List Entry) (count i : ℕ) (none : Entry) (some : 1 ≤ i) (room : count ≤ length lines) where
-  -- the entries in use, from the one before entry i on
-  at_pair : i < count → drop (i - 1) (take count lines) ≡ get_or lines (i - 1) none ∷ get_or lines i none ∷ drop (suc i) (take count lines)
-  at_pair h =
-      let e : suc (i - 1) ≡ i = omega arith in
-      slice-cons (i - 1) count lines none (omega arith) room
-      ∙ ap (λ (k : ℕ). get_or lines (i - 1) none ∷ drop k (take count lines)) e
-      ∙ ap (λ (l : List Entry). get_or lines (i - 1) none ∷ l) (slice-cons i count lines none h room)
+-- and not where one is not
+one-falls : (es : List Entry) (k : ℕ) → k + 1 < length es
+    → ((d : Entry) → false ≡ ltb (slice_index_or es k d).period (slice_index_or es (k + 1) d).period) → false ≡ rises es
+unfolding rises
+one-falls [] k h f = absurd (omega arith)
+one-falls (e ∷ []) k h f = absurd (omega arith)
+one-falls (e ∷ q ∷ qs) zero h f = rw (sym (f e)) refl
+one-falls (e ∷ q ∷ qs) (suc k) h f =
+    let z : suc k + 1 ≡ suc (k + 1) = omega arith in
+    sym (second-fails (ltb e.period q.period) _ (sym (one-falls (q ∷ qs) k (omega arith) (λ d. let here = f d in rw z at here))))
 
-  -- a period above the one before it leaves the rest to be tested
-  pub rises_next : i < count → (get_or lines (i - 1) none).period < (get_or lines i none).period
-      → rises (drop (i - 1) (take count lines)) ≡ rises (drop (i + 1 - 1) (take count lines))
-  unfolding rises
-  rises_next h low =
-      let e : i + 1 - 1 ≡ i = omega arith in
-      rw (e, at_pair h, slice-cons i count lines none h room, lt-ltb _ _ low)
-
-  -- one that is not decides
-  pub rises-fails : i < count → (get_or lines i none).period ≤ (get_or lines (i - 1) none).period → rises (drop (i - 1) (take count lines)) ≡ false
-  unfolding rises
-  rises-fails h high = rw (at_pair h, le-ltb _ _ high)
-
--- the last entry has none after it
-pub rises-last : (es : List Entry) (i : ℕ) → length es ≤ i → rises (drop (i - 1) es) ≡ true
-rises-last es i h = few-rise (drop (i - 1) es) (omega (arith, length-drop (i - 1) es))
+-- `entries.is_sorted_by(..)`
+pub rises-adjacent : (es : List Entry) (r : Bool) → IsAllAdjacentAnswer (λ x y b. b ≡ ltb x.period y.period) es r → r ≡ rises es
+rises-adjacent es true h = all-rise es h
+rises-adjacent es false h = one-falls es h.0 h.1 h.2
 
 -- ---- the entries that lines show
 

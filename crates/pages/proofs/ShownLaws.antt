@@ -1,26 +1,27 @@
 -- Laws of what a page shows of the entries that stand on it, which the laws of both ways rest on. Assumes nothing.
 use mathlib.Core.Path.{◌≡◌, refl, sym, ap, ap₂, ◌∙◌, subst}
-use mathlib.Core.Bool.{Bool, true, false}
+use mathlib.Core.Bool.{true}
 use mathlib.Core.List.{List, [], ◌∷◌, ◌++◌, map}
 use Prim.Native.Nat.{ℕ, zero, suc, ◌+◌, ◌≤◌, ◌<◌, ◌^◌}
 use native.Mathlib.Omega.{arith}
 use lib.IntN.{ℤ, pos}
+use Rattle.std.specs.Prelude.{Option, None, Some, IfSome}
+use Rattle.std.specs.Option.{option_map}
 use lib.ListN.{length, take, drop, get_or}
 use lib.Seq.{take_at, drop_at, get_or-drop}
 use mir.Syntax.{w32}
 use mir.Val.{SFits}
 use mir.ValLaws.{to_z-Fits}
-use Rattle.lists.specs.Choice.{pick}
 use Rattle.lists.specs.Places.{entry, filled}
 use Rattle.lists.specs.I32.{AllI32}
-use Rattle.lists.proofs.Choice.{pick_true, pick-false, pick-holds}
+use Rattle.lists.proofs.Choice.{pick-holds}
 use Rattle.lists.proofs.Places.{take-filled}
 use Rattle.pages.specs.declared.entries.Entry.{Entry}
-use Rattle.pages.specs.Entries.{entry_of, first_entries, Typed, AllTyped, none, one, shown}
+use Rattle.pages.specs.Entries.{command_of, entry_of, first_entries, Typed, AllTyped, none, one, shown}
 use Rattle.octets.specs.Words.{from_twos_complement}
 use Rattle.octets.proofs.TwosComplement.{as-to_z}
 use Rattle.text.specs.Printing.{decimal}
-use Rattle.pages.specs.Line.{right, command_columns, hyphen, commands_shown, line_text, to_the_end, line_bytes, line_length}
+use Rattle.pages.specs.Line.{right, command_columns, command_shown, commands_shown, line_text, to_the_end, line_bytes, line_length}
 use Rattle.pages.specs.Page.{standing, placed, on_page, rises, page_bytes}
 use Rattle.pages.specs.Reading.{entry_in, lines_in}
 use Rattle.pages.proofs.LineLaws.{line-length}
@@ -69,23 +70,16 @@ filled-first zero xs h = refl
 filled-first (suc n) [] h = absurd (omega arith)
 filled-first (suc n) (x ∷ xs) h = ap (λ (l : List ℤ). x ∷ l) (filled-first n xs (omega arith))
 
-shown-commands : (p : ℕ) (e : Entry) → p ≤ 4 → length e.command ≡ 4 → commands_shown p (shown p e) ≡ commands_shown p e
-unfolding commands_shown shown
-shown-commands p e few four = by e.decided refl
+shown-commands : (p : ℕ) (e : Entry) → p ≤ 4 → IfSome e.command (λ c. length c ≡ 4) → commands_shown p (shown p e) ≡ commands_shown p e
+unfolding commands_shown command_shown shown
+shown-commands p e few four = by e.command four
   where
-    by : (b : Bool) → e.decided ≡ b
-        → pick e.decided (command_columns (take p (filled (pos 0) 4 (pick e.decided p 0) (entry e.command)))) hyphen
-        ≡ pick e.decided (command_columns (take p e.command)) hyphen
-    by true d =
-        pick_true _ _ _ d
-        ∙ ap command_columns
-        (ap (λ (k : ℕ). take p (filled (pos 0) 4 k (entry e.command))) (pick_true _ p 0 d)
-        ∙ take-filled (pos 0) 4 p (entry e.command) few
-        ∙ filled-first p e.command (omega arith))
-        ∙ sym (pick_true _ _ _ d)
-    by false d = pick-false _ _ _ d ∙ sym (pick-false _ _ _ d)
+    by : (o : Option (List ℤ)) → IfSome o (λ c. length c ≡ 4)
+        → command_shown p (option_map (λ c. filled (pos 0) 4 p (entry c)) o) ≡ command_shown p o
+    by (Some c) size = ap command_columns (take-filled (pos 0) 4 p (entry c) few ∙ filled-first p c (omega arith))
+    by None size = refl
 
-shown-line : (p : ℕ) (e : Entry) → p ≤ 4 → length e.command ≡ 4 → line_bytes p (shown p e) ≡ line_bytes p e
+shown-line : (p : ℕ) (e : Entry) → p ≤ 4 → IfSome e.command (λ c. length c ≡ 4) → line_bytes p (shown p e) ≡ line_bytes p e
 unfolding line_bytes line_text shown
 shown-line p e few four =
     ap (λ (l : List ℕ). to_the_end (right 10 (decimal e.period) ++ ((32 ∷ right 10 (decimal e.view)) ++ (32 ∷ l))) ++ (10 ∷ [])) (shown-commands p e few four)
@@ -119,13 +113,15 @@ four-fit a b c d fa fb fc fd (suc (suc (suc zero))) = fd
 four-fit a b c d fa fb fc fd (suc (suc (suc (suc i)))) = record { sfits = omega arith }
 
 entry-typed : (words : List ℕ) → ((i : ℕ) → get_or words i 0 < 2 ^ 32) → Typed (entry_of words)
-unfolding entry_of
+unfolding entry_of command_of
 entry-typed words h =
     record {
       period = h 0;
       view = h 1;
-      places = refl;
-      values = four-fit _ _ _ _ (value-fits _ (h 3)) (value-fits _ (h 4)) (value-fits _ (h 5)) (value-fits _ (h 6));
+      places = pick-holds (λ (o : Option (List ℤ)). IfSome o (λ c. length c ≡ 4)) _ None _ (λ _. tt) (λ _. refl);
+      values =
+          pick-holds (λ (o : Option (List ℤ)). IfSome o AllI32) _ None _ (λ _. tt)
+          (λ _. four-fit _ _ _ _ (value-fits _ (h 3)) (value-fits _ (h 4)) (value-fits _ (h 5)) (value-fits _ (h 6)));
     }
 
 pub first-typed : (n : ℕ) (words : List ℕ) → ((i : ℕ) → get_or words i 0 < 2 ^ 32) → AllTyped (first_entries n words)

@@ -1,31 +1,40 @@
 -- Laws of entries that are handed as words and placed from the last one on. Assumes nothing.
-use mathlib.Core.Path.{◌≡◌, ap, ◌∙◌}
-use mathlib.Core.Bool.{not}
+use mathlib.Core.Path.{◌≡◌, sym, ap, ◌∙◌}
 use mathlib.Core.List.{List, [], ◌∷◌}
 use Prim.Native.Nat.{ℕ, suc, ◌+◌, ◌*◌, ◌-◌, ◌/◌, ◌≤◌, ◌<◌}
 use native.Mathlib.Omega.{arith}
-use lib.Dec.{eqb}
+use Rattle.std.specs.Prelude.{Option, None, Some}
+use lib.IntN.{ℤ}
+use borrow.Author.Tests.{eq-eqb, ne_eqb}
+use Rattle.lists.proofs.Choice.{pick_true, pick-false}
 use lib.ListN.{length, drop, get_or}
 use lib.Seq.{drop-drop, get_or-drop}
 use Rattle.octets.specs.Words.{from_twos_complement}
 use Rattle.pages.specs.declared.entries.Entry.{Entry}
-use Rattle.pages.specs.Entries.{entry_of, first_entries, entries_of}
+use Rattle.pages.specs.Entries.{command_of, entry_of, first_entries, entries_of}
 use Rattle.pages.specs.Page.{placed, on_page}
 
 -- an entry word by word
-pub entry-words : (words : List ℕ) (at : ℕ) (a b c d : _)
-    → a ≡ from_twos_complement (get_or words (at + 3) 0) → b ≡ from_twos_complement (get_or words (at + 4) 0)
-    → c ≡ from_twos_complement (get_or words (at + 5) 0) → d ≡ from_twos_complement (get_or words (at + 6) 0)
-    → record {
-      period = get_or words at 0;
-      view = get_or words (at + 1) 0;
-      decided = not (eqb (get_or words (at + 2) 0) 0);
-      command = a ∷ b ∷ c ∷ d ∷ [];
-    } ≡ entry_of (drop at words)
-unfolding entry_of
-entry-words words at a b c d ea eb ec ed =
-    let z : at + 0 ≡ at = omega arith in
-    rw (get_or-drop at words 0 0, z, get_or-drop at words 1 0, get_or-drop at words 2 0, get_or-drop at words 3 0, get_or-drop at words 4 0, get_or-drop at words 5 0, get_or-drop at words 6 0, ea, eb, ec, ed)
+module _ (words : List ℕ) (at : ℕ) where
+  pub no_command : get_or words (at + 2) 0 ≡ 0 → None ≡ command_of (drop at words)
+  unfolding command_of
+  no_command e = sym (pick_true _ _ _ (rw (get_or-drop at words 2 0) (eq-eqb _ 0 e)))
+
+  pub command-words : (a b c d : ℤ) → (get_or words (at + 2) 0 ≡ 0 → ⊥)
+      → a ≡ from_twos_complement (get_or words (at + 3) 0) → b ≡ from_twos_complement (get_or words (at + 4) 0)
+      → c ≡ from_twos_complement (get_or words (at + 5) 0) → d ≡ from_twos_complement (get_or words (at + 6) 0)
+      → Some (a ∷ b ∷ c ∷ d ∷ []) ≡ command_of (drop at words)
+  unfolding command_of
+  command-words a b c d n ea eb ec ed =
+      sym (pick-false _ _ _ (rw (get_or-drop at words 2 0) (ne_eqb _ 0 n))
+      ∙ rw (get_or-drop at words 3 0, get_or-drop at words 4 0, get_or-drop at words 5 0, get_or-drop at words 6 0, ea, eb, ec, ed))
+
+  pub entry-words : (command : Option (List ℤ)) → command ≡ command_of (drop at words)
+      → record { period = get_or words at 0; view = get_or words (at + 1) 0; command = command } ≡ entry_of (drop at words)
+  unfolding entry_of
+  entry-words command e =
+      let z : at + 0 ≡ at = omega arith in
+      rw (get_or-drop at words 0 0, z, get_or-drop at words 1 0, e)
 
 -- those that stand on a page, of the entries from number i on
 abbrev pub standing_from : List ℕ → ℕ → List Entry

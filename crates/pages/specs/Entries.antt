@@ -1,5 +1,6 @@
 -- Entries: a period, the view in it, and a command or none. A caller hands them as words of 32 bits.
-use Rattle.std.specs.Prelude.{ℕ, zero, suc, ◌/◌, ◌<◌, ◌^◌, ◌≡◌, Bool, false, not, ◌&&◌, List, [], ◌∷◌, length, get_or, drop, replicate, pos, eqb, leb}
+use Rattle.std.specs.Prelude.{ℕ, zero, suc, ◌/◌, ◌<◌, ◌^◌, ◌≡◌, Bool, ◌&&◌, List, [], ◌∷◌, length, get_or, drop, Option, None, Some, IfSome, ℤ, pos, eqb, leb}
+use Rattle.std.specs.Option.{is_some, option_map}
 use Rattle.lists.specs.Choice.{pick}
 use Rattle.lists.specs.Places.{entry, filled}
 use Rattle.lists.specs.I32.{AllI32}
@@ -10,19 +11,28 @@ use Rattle.pages.specs.declared.entries.Entry.{Entry}
 unfoldable pub commands_ok : ℕ → Bool
 commands_ok p = leb 1 p && leb p 4
 
+-- an entry has a command
+abbrev pub decided : Entry → Bool
+decided e = is_some e.command
+
 -- an entry takes seven words: period, view, a mark that is 0 where there is no command, and four values in two's complement
+unfoldable pub command_of : List ℕ → Option (List ℤ)
+command_of words =
+    pick (eqb (get_or words 2 0) 0)
+    None
+    (Some
+    (from_twos_complement (get_or words 3 0)
+    ∷ from_twos_complement (get_or words 4 0)
+    ∷ from_twos_complement (get_or words 5 0)
+    ∷ from_twos_complement (get_or words 6 0)
+    ∷ []))
+
 unfoldable pub entry_of : List ℕ → Entry
 entry_of words =
     record {
       period = get_or words 0 0;
       view = get_or words 1 0;
-      decided = not (eqb (get_or words 2 0) 0);
-      command =
-          from_twos_complement (get_or words 3 0)
-          ∷ from_twos_complement (get_or words 4 0)
-          ∷ from_twos_complement (get_or words 5 0)
-          ∷ from_twos_complement (get_or words 6 0)
-          ∷ [];
+      command = command_of words;
     }
 
 -- the first n entries in words, the first given first
@@ -38,8 +48,8 @@ entries_of words = first_entries (length words / 7) words
 pub record Typed (e : Entry) : Type 0 where
   pub period : e.period < 2 ^ 32
   pub view : e.view < 2 ^ 32
-  pub places : length e.command ≡ 4
-  pub values : AllI32 e.command
+  pub places : IfSome e.command (λ c. length c ≡ 4)
+  pub values : IfSome e.command AllI32
 
 -- the same of each entry given
 pub data AllTyped : List Entry → Type 0 where
@@ -49,8 +59,8 @@ pub data AllTyped : List Entry → Type 0 where
 -- what a page of p commands shows of an entry: its first p values, and none where there is no command
 unfoldable pub shown : ℕ → Entry → Entry
 shown p e =
-    record { period = e.period; view = e.view; decided = e.decided; command = filled (pos 0) 4 (pick e.decided p 0) (entry e.command) }
+    record { period = e.period; view = e.view; command = option_map (λ c. filled (pos 0) 4 p (entry c)) e.command }
 
 -- a place of a page that is not in use
 abbrev pub blank : Entry
-blank = record { period = 0; view = 0; decided = false; command = replicate 4 (pos 0) }
+blank = record { period = 0; view = 0; command = None }

@@ -1,5 +1,4 @@
 -- The definitions, in the order to read: entries, a line, the lines of a page, writing a page, reading it back, and a worked page.
-pub mod Answers
 pub mod Entries
 pub mod Line
 pub mod Page

@@ -1,6 +1,5 @@
 -- A line of the page: "lines of exactly 72 bytes plus a line feed". 10 is a line feed, 32 a space, 45 a hyphen.
-use Rattle.std.specs.Prelude.{ℕ, ◌-◌, List, [], ◌∷◌, ◌++◌, length, take, replicate, ℤ}
-use Rattle.lists.specs.Choice.{pick}
+use Rattle.std.specs.Prelude.{ℕ, ◌-◌, List, [], ◌∷◌, ◌++◌, length, take, replicate, Option, None, Some, ℤ}
 use Rattle.text.specs.Printing.{decimal, signed}
 use Rattle.pages.specs.declared.entries.Entry.{Entry}
 
@@ -21,9 +20,14 @@ command_columns (z ∷ zs) = right 12 (signed z) ++ command_columns zs
 unfoldable pub hyphen : List ℕ
 hyphen = right 12 (45 ∷ [])
 
--- the first p commands of an entry, or the hyphen
+-- the first p values of a command, or the hyphen where there is none
+unfoldable pub command_shown : ℕ → Option (List ℤ) → List ℕ
+command_shown p None = hyphen
+command_shown p (Some values) = command_columns (take p values)
+
+-- the same of an entry
 unfoldable pub commands_shown : ℕ → Entry → List ℕ
-commands_shown p e = pick e.decided (command_columns (take p e.command)) hyphen
+commands_shown p e = command_shown p e.command
 
 -- "period right-aligned in 10 columns, a space, view in 10, a space, then the commands"
 unfoldable pub line_text : ℕ → Entry → List ℕ

@@ -2,11 +2,12 @@
 use Rattle.std.specs.Prelude.{ℕ, ◌*◌, Bool, true, not, ◌&&◌, List, [], ◌∷◌, ◌++◌, eqb, ltb}
 use Rattle.lists.specs.Choice.{pick}
 use Rattle.pages.specs.declared.entries.Entry.{Entry}
+use Rattle.pages.specs.Entries.{decided}
 use Rattle.pages.specs.Line.{line_bytes, line_length}
 
 -- which of two entries of one period stands on the page, e given before q: "the first given; one without a command gives way to one with it"
 unfoldable pub standing : Entry → Entry → Entry
-standing e q = pick (not e.decided && q.decided) q e
+standing e q = pick (not (decided e) && decided q) q e
 
 -- an entry among those that stand already, which were given after it: "Equal periods appear as one line", the others "in rising order"
 unfoldable pub placed : Entry → List Entry → List Entry

@@ -1,5 +1,5 @@
 -- What reading a page back finds.
-use Rattle.std.specs.Prelude.{ℕ, zero, suc, ◌+◌, ◌*◌, ◌/◌, ◌≡◌, Bool, true, false, not, ◌&&◌, List, [], ◌∷◌, length, get_or, drop, ℤ, pos, eqb, leb}
+use Rattle.std.specs.Prelude.{ℕ, zero, suc, ◌+◌, ◌*◌, ◌/◌, ◌≡◌, Bool, true, false, not, ◌&&◌, List, [], ◌∷◌, length, get_or, drop, None, Some, ℤ, pos, eqb, leb}
 use Rattle.lists.specs.Choice.{pick}
 use Rattle.lists.specs.Places.{filled}
 use Rattle.lists.specs.Refusals.{refusal, first_of}
@@ -34,8 +34,7 @@ entry_in p line =
     record {
       period = count_at line 0;
       view = count_at line 11;
-      decided = decided_in line;
-      command = filled (pos 0) 4 (pick (decided_in line) p 0) (value_at line);
+      command = pick (decided_in line) (Some (filled (pos 0) 4 p (value_at line))) None;
     }
 
 -- the entries that the first n lines show

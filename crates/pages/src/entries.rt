@@ -1,6 +1,6 @@
 // Entries, and the words that a caller hands them as.
 ghost use Rattle.std.specs.Prelude.{◌≡◌, ◌+◌, ◌≤◌, length, drop};
-ghost use Rattle.pages.specs.Entries.{commands_ok, entry_of, blank as Entries·blank};
+ghost use Rattle.pages.specs.Entries.{commands_ok, command_of, entry_of, blank as Entries·blank};
 
 use octets::word::signed;
 
@@ -9,8 +9,7 @@ use octets::word::signed;
 pub struct Entry {
     pub period: u32,
     pub view: u32,
-    pub decided: bool,
-    pub command: [i32; 4],
+    pub command: Option<[i32; 4]>,
 }
 
 // The words that an entry takes.
@@ -20,10 +19,7 @@ pub const WORDS: usize = 7;
 pub fn commands_ok(p: usize) -> bool
     ensures { result ≡ commands_ok p }
 {
-    if p < 1 {
-        return false;
-    }
-    p <= 4
+    1 <= p && p <= 4
 }
 
 // No entry.
@@ -33,9 +29,24 @@ pub fn blank() -> Entry
     Entry {
         period: 0,
         view: 0,
-        decided: false,
-        command: [0i32; 4],
+        command: None,
     }
+}
+
+// The command in the seven words from one on.
+fn command_at(words: &[u32], at: usize) -> Option<[i32; 4]>
+    requires { at + 7 ≤ length words.now }
+    ensures { result ≡ command_of (drop at words.now) }
+{
+    if words[at + 2] == 0 {
+        return None;
+    }
+    Some([
+        signed(words[at + 3]),
+        signed(words[at + 4]),
+        signed(words[at + 5]),
+        signed(words[at + 6]),
+    ])
 }
 
 // The entry in the seven words from one on.
@@ -43,16 +54,9 @@ pub(crate) fn entry_at(words: &[u32], at: usize) -> Entry
     requires { at + 7 ≤ length words.now }
     ensures { result ≡ entry_of (drop at words.now) }
 {
-    let command = [
-        signed(words[at + 3]),
-        signed(words[at + 4]),
-        signed(words[at + 5]),
-        signed(words[at + 6]),
-    ];
     Entry {
         period: words[at],
         view: words[at + 1],
-        decided: words[at + 2] != 0,
-        command,
+        command: command_at(words, at),
     }
 }

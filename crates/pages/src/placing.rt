@@ -8,7 +8,7 @@ ghost use Rattle.pages.specs.Placing.{Holds};
 use crate::entries::{Entry, WORDS, blank, entry_at};
 use crate::lines::{MOST, Page};
 
-// The lowest periods, as many as a page has lines; and whether there are more.
+// The lowest periods, as many as a page has lines; and whether there are more. The page stands where there are more too: program page prints it.
 #[derive(Clone, Copy)]
 pub struct Placed {
     pub page: Page,
@@ -29,46 +29,38 @@ pub fn nothing() -> Placed
 }
 
 // Which of two entries of one period stands on the page, the first of them given before the other.
-fn standing(first: Entry, later: Entry) -> Entry
-    ensures { result ≡ Page·standing first later }
+fn standing(first: Entry, next: Entry) -> Entry
+    ensures { result ≡ Page·standing first next }
 {
-    if first.decided {
-        return first;
+    match first.command {
+        Some(_) => first,
+        None => { if next.command.is_some() { next } else { first } }
     }
-    if later.decided { later } else { first }
 }
 
-fn lower(a: Entry, b: Entry) -> Entry
-    ensures { result ≡ pick (ltb a.period b.period) a b }
+// The two entries, that of the lower period first.
+fn in_order(a: Entry, b: Entry) -> (Entry, Entry)
+    ensures { (result.0 ≡ pick (ltb a.period b.period) a b) × (result.1 ≡ pick (ltb a.period b.period) b a) }
 {
-    if a.period < b.period { a } else { b }
-}
-
-fn higher(a: Entry, b: Entry) -> Entry
-    ensures { result ≡ pick (ltb a.period b.period) b a }
-{
-    if a.period < b.period { b } else { a }
+    if a.period < b.period { (a, b) } else { (b, a) }
 }
 
 // An entry behind the last line, where a line is left.
-fn behind(lines: [Entry; MOST], count: usize, entry: Entry, more: bool) -> Placed
-    requires { count ≤ 60 }
-    ensures { Holds result (take count lines ++ (entry ∷ [])) more }
+fn behind(page: Page, entry: Entry, more: bool) -> Placed
+    requires { page.count ≤ 60 }
+    ensures { Holds result (take page.count page.lines ++ (entry ∷ [])) more }
 {
-    if count < MOST {
-        let mut grown = lines;
-        grown[count] = entry;
-        return Placed {
-            page: Page {
-                lines: grown,
-                count: count + 1,
-            },
-            more,
-        };
+    if MOST <= page.count {
+        return Placed { page, more: true };
     }
+    let mut lines = page.lines;
+    lines[page.count] = entry;
     Placed {
-        page: Page { lines, count },
-        more: true,
+        page: Page {
+            lines,
+            count: page.count + 1,
+        },
+        more,
     }
 }
 
@@ -77,13 +69,11 @@ pub fn place(placed: Placed, entry: Entry) -> Placed
     requires { (placed.page.count ≤ 60) × (rises (take placed.page.count placed.page.lines) ≡ true) }
     ensures { Holds result (Page·placed entry (take placed.page.count placed.page.lines)) placed.more }
 {
-    let page = placed.page;
+    let mut lines = placed.page.lines;
+    let count = placed.page.count;
     let more = placed.more;
-    let mut lines = page.lines;
-    let count = page.count;
     let mut moved = entry;
-    let mut i = 0;
-    while i < count {
+    for i in 0..count {
         let held = lines[i];
         if moved.period == held.period {
             lines[i] = standing(moved, held);
@@ -92,11 +82,11 @@ pub fn place(placed: Placed, entry: Entry) -> Placed
                 more,
             };
         }
-        lines[i] = lower(moved, held);
-        moved = higher(moved, held);
-        i += 1;
+        let (lower, higher) = in_order(moved, held);
+        lines[i] = lower;
+        moved = higher;
     }
-    behind(lines, count, moved, more)
+    behind(Page { lines, count }, moved, more)
 }
 
 // The page of the entries in these words.
@@ -104,9 +94,7 @@ pub(crate) fn place_words(words: &[u32]) -> Placed
     ensures { Holds result (on_page (entries_of words.now)) false }
 {
     let mut placed = nothing();
-    let mut i = words.len() / WORDS;
-    while 0 < i {
-        i -= 1;
+    for i in (0..words.len() / WORDS).rev() {
         placed = place(placed, entry_at(words, WORDS * i));
     }
     placed

@@ -1,21 +1,14 @@
-// Groups of three and of nine boxes, with coefficients that keep the state near its readings.
+// Groups of boxes, with coefficients that keep the state near its readings.
+ghost use Rattle.std.specs.Prelude.{◌<◌};
+
 use frame::lengths::LONGEST_COMMAND;
 use replica::{Replica, Settings};
 use transmitters::Reading;
 
-// Three replicas, and the command written last.
-#[derive(Drop)]
-pub struct Three {
-    pub first: Replica,
-    pub second: Replica,
-    pub third: Replica,
-    pub command: [u8; LONGEST_COMMAND],
-}
-
-// Nine replicas, that of box j at place j - 1, and the command written last.
-#[derive(Drop)]
-pub struct Nine {
-    pub replicas: [Replica; 9],
+// The replicas of N boxes, that of box j at place j - 1, and the command written last.
+#[derive(Clone, Copy)]
+pub struct Group<const N: usize> {
+    pub replicas: [Replica; N],
     pub command: [u8; LONGEST_COMMAND],
 }
 
@@ -29,7 +22,7 @@ fn four_rows(on: i32, off: i32) -> [i32; 24] {
     table
 }
 
-// Places beyond n, m and p are not looked at, so both groups have the same tables.
+// Places beyond n, m and p are not looked at, so all groups have the same tables.
 fn law(n: usize, m: usize, p: usize) -> law::Settings {
     let mut a = [1024; 36];
     a[0] = 32768;
@@ -67,48 +60,32 @@ fn made(boxes: u8, own: u8, law: law::Settings) -> Replica {
         quorums,
         law,
     });
-    made.replica
+    made.unwrap_or(replica::blank())
 }
 
-pub fn made_three() -> Three {
-    let law = law(4, 2, 1);
-    Three {
-        first: made(3, 1, law),
-        second: made(3, 2, law),
-        third: made(3, 3, law),
-        command: [0u8; LONGEST_COMMAND],
+impl<const N: usize> Group<N> {
+    // Fresh boxes under a law of these sizes.
+    pub fn new(n: usize, m: usize, p: usize) -> Self
+        requires { N < 256 }
+    {
+        let law = law(n, m, p);
+        // A closure for std::array::from_fn does not see that N is below 256.
+        let mut replicas = [made(N as u8, 1, law); N];
+        for j in 1..N {
+            replicas[j] = made(N as u8, j as u8 + 1, law);
+        }
+        Group {
+            replicas,
+            command: [0u8; LONGEST_COMMAND],
+        }
     }
 }
 
-pub fn made_nine() -> Nine {
-    let law = law(6, 4, 4);
-    let mut replicas = [made(9, 1, law); 9];
-    let mut j = 1;
-    while j < 9 {
-        replicas[j] = made(9, (j as u8) + 1, law);
-        j += 1;
-    }
-    Nine {
-        replicas,
-        command: [0u8; LONGEST_COMMAND],
-    }
-}
-
-// A count where the reading is there.
-fn count(present: bool, n: i32) -> Reading {
-    if present {
-        Reading::Count(n)
+// The readings of every tick: 103, 204, 305 and 406, of which the first m are there.
+pub fn row(m: usize) -> [Reading; 4] {
+    std::array::from_fn(|j| if j < m {
+        Reading::Count(103 + 101 * j as i32)
     } else {
         Reading::Missing
-    }
-}
-
-// The readings of every tick: the first m are there.
-pub fn row(m: usize) -> [Reading; 4] {
-    [
-        count(0 < m, 103),
-        count(1 < m, 204),
-        count(2 < m, 305),
-        count(3 < m, 406),
-    ]
+    })
 }

@@ -8,6 +8,7 @@ mod normal;
 mod steps;
 mod takeover;
 
+use boxes::Group;
 use frame::lengths::LONGEST_COMMAND;
 use std::io::Read;
 
@@ -17,35 +18,26 @@ fn print(rt: &impl Print, letter: u8, p: usize, command: [u8; LONGEST_COMMAND]) 
     let values = frame::command_values(&command);
     let at = text::printing::put_byte(&mut text, 0, letter);
     let at = text::printing::put_byte(&mut text, at, 32);
-    let at = text::printing::put_list(&mut text, at, &values[0..text::printing::at_most(p, 4)]);
+    let at = text::printing::put_list(&mut text, at, &values[..p.min(4)]);
     let at = text::printing::put_byte(&mut text, at, 10);
-    let _ = rt.write_all(&text[0..text::printing::at_most(at, 64)]);
+    let _ = rt.write_all(&text[..at.min(64)]);
 }
 
 fn main(rt: HostRuntime) {
     let mut letters = [0u8; 4096];
     let count = rt.reader().read(&mut letters).unwrap_or(0);
-    let mut a = boxes::made_three();
-    let mut b = boxes::made_nine();
-    let mut c = boxes::made_three();
-    let mut i = 0;
-    while i < count {
-        let letter = letters[i];
-        if letter == b'a' {
-            a = normal::three(a);
+    let mut a = Group::<3>::new(4, 2, 1);
+    let mut b = Group::<9>::new(6, 4, 4);
+    let mut c = Group::<3>::new(4, 2, 1);
+    for letter in &letters[..count] {
+        match letter {
+            b'a' => a = normal::period(a, 2),
+            b'b' => b = normal::period(b, 4),
+            b'c' => c = takeover::period(c),
+            _ => {}
         }
-        if letter == b'b' {
-            b = normal::nine(b);
-        }
-        if letter == b'c' {
-            c = takeover::three(c);
-        }
-        i += 1;
     }
-    let command = a.command;
-    print(&rt, b'a', 1, command);
-    let command = b.command;
-    print(&rt, b'b', 4, command);
-    let command = c.command;
-    print(&rt, b'c', 1, command);
+    print(&rt, b'a', 1, a.command);
+    print(&rt, b'b', 4, b.command);
+    print(&rt, b'c', 1, c.command);
 }

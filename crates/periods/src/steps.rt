@@ -5,10 +5,7 @@ use replica::{Replica, Stepped};
 
 // The bytes that a step sent.
 fn sent(area: &[u8], size: usize) -> &[u8] {
-    if area.len() < size {
-        return &area[0..0];
-    }
-    &area[0..size]
+    area.get(..size).unwrap_or(&[])
 }
 
 pub fn tick(

@@ -1,24 +1,28 @@
 -- Laws of printed lines: numbers with commas between them, one after the other, and the fields of a line. Assumes nothing.
 use mathlib.Core.Path.{◌≡◌, refl, sym, ap, ◌∙◌}
-use mathlib.Core.Bool.{true, false, not, ◌||◌}
+use mathlib.Core.Bool.{Bool, true, false, ◌&&◌, ◌||◌}
 use mathlib.Core.List.{List, [], ◌∷◌}
 use Prim.Native.Nat.{ℕ, zero, suc, ◌-◌, ◌≤◌, ◌<◌}
 use native.Mathlib.Omega.{arith}
-use lib.Dec.{eqb, eqb-suc-zero}
+use lib.Dec.{eqb}
 use lib.IntN.{ℤ, pos}
-use lib.ListN.{length, get_or, take, drop, replicate, length-drop}
-use lib.Seq.{length-take-le}
-use borrow.Author.Tests.{eq-eqb, ne_eqb, lt-ltb, le-ltb}
+use lib.ListN.{length, get_or, take, drop, length-drop}
+use lib.Seq.{length-take-le, drop-cons}
+use borrow.Author.Tests.{lt-ltb, le-ltb}
+use Rattle.std.specs.Prelude.{Option, None, Some, nat_eq}
+use Rattle.std.specs.Cmp.Lexicographic.{pointwise}
+use Rattle.std.specs.Option.{is_some, unwrap_or}
 use Rattle.lists.specs.Choice.{pick}
 use Rattle.lists.specs.Places.{filled}
 use Rattle.lists.proofs.Booleans.{never, both}
 use Rattle.lists.proofs.Choice.{pick_true, pick-false, pick-holds}
-use Rattle.lists.proofs.Parts.{get_d_beyond}
-use Rattle.lists.proofs.Places.{filled_none, take-blanks}
+use Rattle.lists.proofs.Parts.{drop-beyond}
+use Rattle.lists.proofs.Places.{take-blanks}
 use Rattle.line.specs.Fields.{spaces, field}
 use Rattle.text.specs.Numbers.{number_of, value_in, is_whole}
 use Rattle.text.specs.Lines.{up_to, after}
-use Rattle.printed.specs.Values.{has_comma, is_list, how_many, value_at}
+use Rattle.printed.specs.declared.values.Values.{Values}
+use Rattle.printed.specs.Values.{has_comma, is_list, how_many, value_at, values_of}
 use Rattle.printed.specs.Lines.{is_none, is_refusal_number, is_refusal, unstarred, head_ok, counters_ok, is_frame, tail_ok, ten_ok, is_step, commands_in}
 
 -- ---- numbers with commas between them
@@ -80,16 +84,9 @@ pub value_after : (bytes : List ℕ) (j : ℕ) → value_at bytes (suc j) ≡ va
 unfolding value_at
 value_after bytes j = refl
 
--- a list has at least one number
-some-values : (k : ℕ) (bytes : List ℕ) → is_list k bytes ≡ true → not (eqb (how_many k bytes) 0) ≡ true
-unfolding is_list how_many
-some-values zero bytes h = never h
-some-values (suc k) bytes h = rw eqb-suc-zero
-
--- the number of values is 0 where there is no list
-pub list_counted : (k : ℕ) (bytes : List ℕ) → not (eqb (pick (is_list k bytes) (how_many k bytes) 0) 0) ≡ is_list k bytes
-list_counted k bytes =
-    pick-holds (λ (n : ℕ). not (eqb n 0) ≡ is_list k bytes) (is_list k bytes) _ _ (λ h. some-values k bytes h ∙ sym h) (λ h. sym h)
+-- what is no list has no values
+pub list_some : (k : ℕ) (bytes : List ℕ) → is_some (pick (is_list k bytes) (Some (values_of k bytes)) None) ≡ is_list k bytes
+list_some k bytes = pick-holds (λ (o : Option Values). is_some o ≡ is_list k bytes) (is_list k bytes) _ _ (λ h. sym h) (λ h. sym h)
 
 -- there are at most k numbers
 pub many-most : (k : ℕ) (bytes : List ℕ) → how_many k bytes ≤ k
@@ -98,41 +95,57 @@ many-most zero bytes = omega arith
 many-most (suc k) bytes =
     pick-holds (λ (n : ℕ). suc n ≤ suc k) (has_comma bytes) _ _ (λ h. omega (arith, many-most k (after 44 bytes))) (λ h. omega arith)
 
--- no values fill no places
-pub none_filled : (values : List ℤ) (n : ℕ) (f : ℕ → ℤ) → n ≡ 0 → values ≡ replicate 6 (pos 0) → values ≡ filled (pos 0) 6 n f
-none_filled values n f z e = rw (e, z) (sym (filled_none (pos 0) 6 f))
-
 -- ---- fields
 
--- nothing is no refusal
-pub refusal-none : (bytes : List ℕ) → length bytes ≡ 0 → is_refusal bytes ≡ false
-unfolding is_refusal
-refusal-none bytes h = rw (get_d_beyond bytes 0 (omega arith))
+and-true : (b : Bool) → (b && true) ≡ b
+and-true true = refl
+and-true false = refl
 
--- what does not begin with `r` is none either
-pub refusal-other : (bytes : List ℕ) → (get_or bytes 0 0 ≡ 114 → ⊥) → is_refusal bytes ≡ false
+-- `bytes.strip_prefix(b"r")`
+first_byte : (bytes : List ℕ) → pointwise nat_eq (take 1 bytes) (114 ∷ []) ≡ eqb (get_or bytes 0 0) 114
+first_byte [] = refl
+first_byte (b ∷ bs) = and-true (eqb b 114)
+
+-- what does not begin with `r` is no refusal
+pub refusal-other : (bytes : List ℕ) → pointwise nat_eq (take 1 bytes) (114 ∷ []) ≡ false → is_refusal bytes ≡ false
 unfolding is_refusal
-refusal-other bytes h = rw (ne_eqb _ _ h)
+refusal-other bytes h = rw (sym (first_byte bytes) ∙ h)
 
 -- behind an `r` its number is left to be tested
-pub refusal-number : (bytes : List ℕ) → get_or bytes 0 0 ≡ 114 → is_refusal bytes ≡ is_refusal_number (drop 1 bytes)
+pub refusal-number : (bytes : List ℕ) → pointwise nat_eq (take 1 bytes) (114 ∷ []) ≡ true → is_refusal bytes ≡ is_refusal_number (drop 1 bytes)
 unfolding is_refusal
-refusal-number bytes h = rw (eq-eqb _ _ h)
+refusal-number bytes h = rw (sym (first_byte bytes) ∙ h)
+
+-- `bytes.strip_suffix(b"*")`
+last_byte : (bytes : List ℕ) → pointwise nat_eq (drop (length bytes - 1) bytes) (42 ∷ []) ≡ eqb (get_or bytes (length bytes - 1) 0) 42
+last_byte [] = refl
+last_byte (b ∷ bs) =
+    let k : ℕ = length (b ∷ bs) - 1 in
+    let whole : drop k (b ∷ bs) ≡ get_or (b ∷ bs) k 0 ∷ [] =
+    drop-cons (b ∷ bs) k 0 (omega arith) ∙ ap (λ (l : List ℕ). get_or (b ∷ bs) k 0 ∷ l) (drop-beyond (b ∷ bs) (suc k) (omega arith)) in
+    ap (λ (l : List ℕ). pointwise nat_eq l (42 ∷ [])) whole ∙ and-true (eqb (get_or (b ∷ bs) k 0) 42)
 
 -- a star at the end is left out
-pub star-out : (bytes : List ℕ) → get_or bytes (length bytes - 1) 0 ≡ 42 → unstarred bytes ≡ take (length bytes - 1) bytes
+pub star-out : (bytes : List ℕ) → pointwise nat_eq (drop (length bytes - 1) bytes) (42 ∷ []) ≡ true → unstarred bytes ≡ take (length bytes - 1) bytes
 unfolding unstarred
-star-out bytes h = pick_true _ _ _ (eq-eqb _ _ h)
+star-out bytes h = pick_true _ _ _ (sym (last_byte bytes) ∙ h)
 
 -- what has none stays
-pub no-star : (bytes : List ℕ) → (get_or bytes (length bytes - 1) 0 ≡ 42 → ⊥) → unstarred bytes ≡ bytes
+pub no-star : (bytes : List ℕ) → pointwise nat_eq (drop (length bytes - 1) bytes) (42 ∷ []) ≡ false → unstarred bytes ≡ bytes
 unfolding unstarred
-no-star bytes h = pick-false _ _ _ (ne_eqb _ _ h)
+no-star bytes h = pick-false _ _ _ (sym (last_byte bytes) ∙ h)
 
--- nothing stays nothing
-pub nothing-starred : (bytes : List ℕ) → length bytes ≡ 0 → unstarred bytes ≡ bytes
-unfolding unstarred
-nothing-starred bytes h = pick-false _ _ _ (rw (get_d_beyond bytes (length bytes - 1) (omega arith)))
+-- ---- a choice that may be none
+
+pub none-is : {A : Type 0} (b : Bool) (x : A) → pick b None (Some x) ≡ None → b ≡ true
+unfolding pick
+none-is true x h = refl
+none-is false x h = never (sym (ap is_some h))
+
+pub some-is : {A : Type 0} (b : Bool) (x y : A) → pick b None (Some x) ≡ Some y → (b ≡ false) × (x ≡ y)
+unfolding pick
+some-is true x y h = never (ap is_some h)
+some-is false x y h = (refl, ap (λ o. unwrap_or o x) h)
 
 -- ---- a step's line
 

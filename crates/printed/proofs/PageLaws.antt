@@ -157,18 +157,16 @@ one_from from e es = by (dec_le from e.period)
         pick_true _ _ _ (lt-ltb _ _ low) ∙ sym (ap on_page (from-below from e es low))
 
 -- the entry before those from number i on
-pub one-before : (from : ℕ) (entries : List Entry) (count i : ℕ) (d : Entry) → 0 < i → i ≤ count → count ≤ length entries
-    → pick (ltb (get_or entries (i - 1) d).period from) (on_page (entries_from from (drop i (take count entries))))
-    (placed (get_or entries (i - 1) d) (on_page (entries_from from (drop i (take count entries)))))
-    ≡ on_page (entries_from from (drop (i - 1) (take count entries)))
-one-before from entries count i d some here room =
+pub one-before : (from : ℕ) (es : List Entry) (i : ℕ) (d : Entry) → 0 < i → i ≤ length es
+    → pick (ltb (get_or es (i - 1) d).period from) (on_page (entries_from from (drop i es)))
+    (placed (get_or es (i - 1) d) (on_page (entries_from from (drop i es))))
+    ≡ on_page (entries_from from (drop (i - 1) es))
+one-before from es i d some here =
     let k : ℕ = i - 1 in
     let s : i ≡ suc k = omega arith in
-    let size = length-take-le count entries room in
-    let cons : drop k (take count entries) ≡ get_or entries k d ∷ drop i (take count entries) =
-    drop-cons (take count entries) k d (omega arith)
-    ∙ ap₂ (λ (q : Entry) (n : ℕ). q ∷ drop n (take count entries)) (get_or-take count entries k d (omega arith)) (sym s) in
-    one_from from (get_or entries k d) (drop i (take count entries)) ∙ ap (λ (t : List Entry). on_page (entries_from from t)) (sym cons)
+    let cons : drop k es ≡ get_or es k d ∷ drop i es =
+    drop-cons es k d (omega arith) ∙ ap (λ (n : ℕ). get_or es k d ∷ drop n es) (sym s) in
+    one_from from (get_or es k d) (drop i es) ∙ ap (λ (t : List Entry). on_page (entries_from from t)) (sym cons)
 
 -- what is held of all, of an entry that is placed where a test fails
 pub holds-from : (b : Bool) (p r : Placed) (e : Entry) (l : List Entry) → Holds p l false

@@ -1,12 +1,14 @@
 -- Laws of a text's lines, one after the other: those that are left, and what one of them adds. Assumes nothing.
 use mathlib.Core.Path.{◌≡◌, refl, sym, ap, ap₂, ◌∙◌}
-use mathlib.Core.Bool.{Bool, true, false}
+use mathlib.Core.Bool.{Bool, true, false, not}
 use mathlib.Core.List.{List, [], ◌∷◌, ◌++◌, map, append-nil, append_assoc}
 use Prim.Native.Nat.{ℕ, suc, ◌+◌, ◌-◌, ◌≤◌, ◌<◌}
 use native.Mathlib.Omega.{arith}
 use lib.Dec.{eqb}
 use lib.ListN.{length, take, drop}
 use borrow.Author.Tests.{eq-eqb, ne_eqb}
+use Rattle.std.specs.Prelude.{Option, None, Some}
+use Rattle.std.specs.Int.{from_bool}
 use Rattle.lists.specs.Choice.{pick}
 use Rattle.lists.proofs.Choice.{pick_true, pick-false, pick-holds}
 use Rattle.text.specs.Lines.{first_line, after_line, lines_of}
@@ -14,8 +16,8 @@ use Rattle.text.proofs.LineLaws.{lines_next, lines_end, no_lines}
 use Rattle.pages.specs.declared.entries.Entry.{Entry}
 use Rattle.line.specs.Fields.{field}
 use Rattle.printed.specs.declared.lines.Printed.{Printed}
-use Rattle.printed.specs.Lines.{is_step, is_ok, step_line, no_step, printed_as}
-use Rattle.printed.specs.Pages.{most, printed_in, first_commands, is_entry, is_passed, entries_in, passed_in}
+use Rattle.printed.specs.Lines.{is_step, is_ok, is_other, step_line, no_step, printed_as}
+use Rattle.printed.specs.Pages.{most, printed_in, commands, first_commands, entry_on, with_entry, is_passed, entries_in, passed_in}
 use Rattle.printed.proofs.LineLaws.{commands-most}
 
 -- ---- the lines that are left
@@ -52,12 +54,12 @@ left-none text at number h =
 -- ---- what one line adds
 
 -- a line without a command
-pub first_next : (l : Printed) (ls : List Printed) → l.commands ≡ 0 → first_commands (l ∷ ls) ≡ first_commands ls
+pub first_next : (l : Printed) (ls : List Printed) → commands l ≡ 0 → first_commands (l ∷ ls) ≡ first_commands ls
 unfolding first_commands
 first_next l ls e = pick_true _ _ _ (eq-eqb _ _ e)
 
 -- the first line with one
-pub first_found : (l : Printed) (ls : List Printed) → (l.commands ≡ 0 → ⊥) → first_commands (l ∷ ls) ≡ l.commands
+pub first_found : (l : Printed) (ls : List Printed) → (commands l ≡ 0 → ⊥) → first_commands (l ∷ ls) ≡ commands l
 unfolding first_commands
 first_found l ls n = pick-false _ _ _ (ne_eqb _ _ n)
 
@@ -66,14 +68,10 @@ pub first-none : (ls : List Printed) → ls ≡ [] → first_commands ls ≡ 1
 unfolding first_commands
 first-none ls e = ap first_commands e
 
--- the entry of a line, or none
-entries_next : (p : ℕ) (l : Printed) (ls : List Printed) → entries_in p (l ∷ ls) ≡ pick (is_entry p l) (l.entry ∷ []) [] ++ entries_in p ls
-unfolding entries_in
-entries_next p l ls = by (is_entry p l)
-  where
-    by : (b : Bool) → pick b (l.entry ∷ entries_in p ls) (entries_in p ls) ≡ pick b (l.entry ∷ []) [] ++ entries_in p ls
-    by true = pick_true true _ _ refl ∙ ap (λ (t : List Entry). t ++ entries_in p ls) (sym (pick_true true (l.entry ∷ []) [] refl))
-    by false = pick-false false _ _ refl ∙ ap (λ (t : List Entry). t ++ entries_in p ls) (sym (pick-false false (l.entry ∷ []) [] refl))
+-- an entry before others, or none
+with-append : (o : Option Entry) (es : List Entry) → with_entry o es ≡ with_entry o [] ++ es
+with-append (Some e) es = refl
+with-append None es = refl
 
 -- entries so far, and no line left
 pub entries_none : (p : ℕ) (es : List Entry) (ls : List Printed) → ls ≡ [] → es ++ entries_in p ls ≡ es
@@ -81,46 +79,51 @@ unfolding entries_in
 entries_none p es ls e = ap (λ (t : List Printed). es ++ entries_in p t) e ∙ append-nil es
 
 -- entries so far, and those of one line more
-pub entries-more : (p : ℕ) (es fs : List Entry) (l : Printed) (ls : List Printed) → fs ≡ es ++ pick (is_entry p l) (l.entry ∷ []) []
+pub entries-more : (p : ℕ) (es fs : List Entry) (l : Printed) (ls : List Printed) → fs ≡ es ++ with_entry (entry_on p l) []
     → fs ++ entries_in p ls ≡ es ++ entries_in p (l ∷ ls)
+unfolding entries_in
 entries-more p es fs l ls e =
     ap (λ (t : List Entry). t ++ entries_in p ls) e
-    ∙ append_assoc es (pick (is_entry p l) (l.entry ∷ []) []) (entries_in p ls)
-    ∙ ap (λ (t : List Entry). es ++ t) (sym (entries_next p l ls))
+    ∙ append_assoc es (with_entry (entry_on p l) []) (entries_in p ls)
+    ∙ ap (λ (t : List Entry). es ++ t) (sym (with-append (entry_on p l) (entries_in p ls)))
 
 -- one line more that is passed over, or not
-pub passed-next : (p : ℕ) (l : Printed) (ls : List Printed) → passed_in p (l ∷ ls) ≡ pick (is_passed p l) 1 0 + passed_in p ls
-unfolding passed_in
+pub passed-next : (p : ℕ) (l : Printed) (ls : List Printed) → passed_in p (l ∷ ls) ≡ from_bool (is_passed p l) + passed_in p ls
+unfolding passed_in pick
 passed-next p l ls = by (is_passed p l)
   where
-    by : (b : Bool) → pick b (suc (passed_in p ls)) (passed_in p ls) ≡ pick b 1 0 + passed_in p ls
-    by true = omega (arith, pick_true true (suc (passed_in p ls)) (passed_in p ls) refl, pick_true {A = ℕ} true 1 0 refl)
-    by false = omega (arith, pick-false false (suc (passed_in p ls)) (passed_in p ls) refl, pick-false {A = ℕ} false 1 0 refl)
+    by : (b : Bool) → pick b (suc (passed_in p ls)) (passed_in p ls) ≡ from_bool b + passed_in p ls
+    by true = omega arith
+    by false = omega arith
+
+pub one_at_most : (b : Bool) → from_bool b ≤ 1
+one_at_most true = omega arith
+one_at_most false = omega arith
 
 -- no line
 pub passed_none : (p : ℕ) (ls : List Printed) → ls ≡ [] → passed_in p ls ≡ 0
 unfolding passed_in
 passed_none p ls e = ap (passed_in p) e
 
--- at most one of one line
-pub one_at_most : (b : Bool) → pick b 1 0 ≤ 1
-one_at_most b = pick-holds (λ (n : ℕ). n ≤ 1) b 1 0 (λ _. omega arith) (λ _. omega arith)
-
 -- ---- how many values a command has
 
+none-commands : (foreign : Bool) → commands (no_step foreign) ≤ 4
+none-commands true = omega arith
+none-commands false = omega arith
+
 -- the command of any line has at most four
-line-commands : (line : List ℕ) → (printed_as line).commands ≤ 4
+line-commands : (line : List ℕ) → commands (printed_as line) ≤ 4
 unfolding printed_as
 line-commands line =
-    let few : Printed → Type 0 = λ l. l.commands ≤ 4 in
+    let few : Printed → Type 0 = λ l. commands l ≤ 4 in
     pick-holds few (is_step line) _ _
     (λ _. pick-holds few (is_ok (field 2 line)) (step_line line) (no_step false) (λ _. commands-most line) (λ _. omega arith))
-    (λ _. omega arith)
+    (λ _. none-commands (not (is_other line)))
 
 -- so pages have at most four commands
 pub first-few : (lines : List (List ℕ)) → first_commands (map printed_as lines) ≤ 4
 unfolding first_commands
 first-few [] = omega arith
 first-few (l ∷ ls) =
-    pick-holds (λ (n : ℕ). n ≤ 4) (eqb (printed_as l).commands 0) (first_commands (map printed_as ls)) (printed_as l).commands
+    pick-holds (λ (n : ℕ). n ≤ 4) (eqb (commands (printed_as l)) 0) (first_commands (map printed_as ls)) (commands (printed_as l))
     (λ _. first-few ls) (λ _. line-commands l)

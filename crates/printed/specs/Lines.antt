@@ -1,15 +1,15 @@
 -- A line that `bench` or `rig` printed, without its line feed. "Each line is judged by itself, in form and ranges": nothing relates two of its fields.
 -- Quoted are document 01, "The bench", for what is printed, and docs/PAGE.md for what program page makes of it.
-use Rattle.std.specs.Prelude.{ℕ, ◌-◌, Bool, true, false, not, ◌&&◌, ◌||◌, List, [], ◌∷◌, length, get_or, take, drop, pos, eqb, leb}
+use Rattle.std.specs.Prelude.{ℕ, ◌-◌, Bool, true, false, not, ◌&&◌, ◌||◌, List, [], ◌∷◌, length, get_or, take, drop, None, Some, pos, eqb, leb}
 use Rattle.lists.specs.Choice.{pick}
 use Rattle.lists.specs.Places.{filled}
 use Rattle.text.specs.Numbers.{magnitude, size_in, is_size}
 use Rattle.line.specs.Fields.{spaces, field}
 use Rattle.line.specs.Tickets.{ticket_of, is_ticket}
 use Rattle.pages.specs.declared.entries.Entry.{Entry}
-use Rattle.pages.specs.Entries.{blank}
 use Rattle.pages.specs.Reading.{same}
 use Rattle.printed.specs.declared.lines.Printed.{Printed}
+use Rattle.printed.specs.declared.lines.Printed.TheVariants.{Step, Foreign, Other}
 use Rattle.printed.specs.Values.{is_list, how_many, value_at}
 
 -- ---- fields
@@ -99,8 +99,7 @@ entry_in line =
     record {
       period = size_in (magnitude (field 3 line));
       view = size_in (magnitude (field 4 line));
-      decided = not (is_none (field 9 line));
-      command = filled (pos 0) 4 (commands_in line) (value_at (unstarred (field 9 line)));
+      command = pick (is_none (field 9 line)) None (Some (filled (pos 0) 4 (commands_in line) (value_at (unstarred (field 9 line)))));
     }
 
 -- ---- any line
@@ -116,11 +115,12 @@ is_other line =
 
 -- "an entry of each line whose answer is `ok`"
 abbrev pub step_line : List ℕ → Printed
-step_line line = record { done = true; foreign = false; entry = entry_in line; commands = commands_in line }
+step_line line = Step (entry_in line) (commands_in line)
 
 -- another line that bench or rig prints, and, foreign to both, a "line that neither program prints"
 abbrev pub no_step : Bool → Printed
-no_step foreign = record { done = false; foreign = foreign; entry = blank; commands = 0 }
+no_step true = Foreign
+no_step false = Other
 
 -- what a line is
 unfoldable pub printed_as : List ℕ → Printed

@@ -1,11 +1,12 @@
 -- What program `page` prints of the text on its standard input. Quoted is docs/PAGE.md.
-use Rattle.std.specs.Prelude.{ℕ, zero, suc, ◌≡◌, Bool, not, ◌&&◌, ◌||◌, List, [], ◌∷◌, ◌++◌, map, length, take, drop, eqb, ltb}
+use Rattle.std.specs.Prelude.{ℕ, zero, suc, ◌≡◌, Bool, true, false, not, ◌||◌, List, [], ◌∷◌, ◌++◌, map, length, take, drop, Option, None, Some, eqb, ltb}
 use Rattle.lists.specs.Choice.{pick}
 use Rattle.octets.specs.Areas.{over}
 use Rattle.text.specs.Lines.{lines_of}
 use Rattle.pages.specs.declared.entries.Entry.{Entry}
 use Rattle.pages.specs.Page.{on_page, page_bytes, most_lines}
 use Rattle.printed.specs.declared.lines.Printed.{Printed}
+use Rattle.printed.specs.declared.lines.Printed.TheVariants.{Step, Foreign, Other}
 use Rattle.printed.specs.declared.output.Paged.{Paged}
 use Rattle.printed.specs.Lines.{printed_as}
 
@@ -21,27 +22,42 @@ printed_in text = map printed_as (lines_of most text)
 
 -- ---- entries
 
+-- how many values the command of a line has, 0 where there is none
+abbrev pub commands : Printed → ℕ
+commands (Step entry n) = n
+commands Foreign = 0
+commands Other = 0
+
 -- "p is the number of values of the first command, 1 where there is none"
 unfoldable pub first_commands : List Printed → ℕ
 first_commands [] = 1
-first_commands (l ∷ ls) = pick (eqb l.commands 0) (first_commands ls) l.commands
+first_commands (l ∷ ls) = pick (eqb (commands l) 0) (first_commands ls) (commands l)
 
 -- a command has p values, or there is none
 abbrev pub suits : ℕ → ℕ → Bool
 suits p n = eqb n 0 || eqb n p
 
 -- "an entry of each line whose answer is `ok`", where its command suits
-unfoldable pub is_entry : ℕ → Printed → Bool
-is_entry p l = l.done && suits p l.commands
+unfoldable pub entry_on : ℕ → Printed → Option Entry
+entry_on p (Step entry n) = pick (suits p n) (Some entry) None
+entry_on p Foreign = None
+entry_on p Other = None
 
 -- "A line that neither program prints is passed over, and so is an `ok` line whose command has another number of values than p"
 unfoldable pub is_passed : ℕ → Printed → Bool
-is_passed p l = l.foreign || (l.done && not (suits p l.commands))
+is_passed p (Step entry n) = not (suits p n)
+is_passed p Foreign = true
+is_passed p Other = false
+
+-- an entry before others, where there is one
+abbrev pub with_entry : Option Entry → List Entry → List Entry
+with_entry (Some entry) es = entry ∷ es
+with_entry None es = es
 
 -- the entries of lines
 unfoldable pub entries_in : ℕ → List Printed → List Entry
 entries_in p [] = []
-entries_in p (l ∷ ls) = pick (is_entry p l) (l.entry ∷ entries_in p ls) (entries_in p ls)
+entries_in p (l ∷ ls) = with_entry (entry_on p l) (entries_in p ls)
 
 -- how many lines are passed over
 unfoldable pub passed_in : ℕ → List Printed → ℕ

@@ -1,32 +1,29 @@
 // A line that bench or rig printed, judged by itself.
-ghost use Rattle.std.specs.Prelude.{◌≡◌, true, ◌&&◌, ◌||◌, ◌≤◌, eqb, pos, take};
+ghost use Rattle.std.specs.Prelude.{◌≡◌, true, ◌&&◌, ◌||◌, ◌≤◌, eqb, take};
 ghost use Rattle.printed.specs.Lines.{is_counter, is_up_to, is_none, is_ok, is_ignored, is_refusal_number, is_refusal, is_bad, is_header, unstarred as Lines·unstarred, head_ok, counters_ok, is_frame, tail_ok, ten_ok, is_step, is_ask, is_other, step_line, no_step, printed_as};
 ghost use Rattle.line.specs.Fields as Fields;
 ghost use Rattle.lists.specs.Choice.{pick};
-ghost use Rattle.lists.specs.Places.{filled};
-ghost use Rattle.printed.specs.Values.{is_list, how_many, value_at};
+ghost use Rattle.printed.specs.Values.{is_list, values_of};
 
-use crate::values::{Values, no_values, values_in};
+use crate::values::{Values, values_in};
 use line::fields::{count_spaces, field};
-use line::ticket::{is_ticket, ticket_in};
-use pages::entries::{Entry, blank};
-use pages::reading::same;
-use text::numbers::{is_size, read_magnitude, size_of};
+use line::ticket::ticket_in;
+use pages::entries::Entry;
+use text::numbers::read_magnitude;
 
-// What a line is: a step that was done, with its entry and the number of values of its command, a line that neither bench nor rig prints, or another
-// one of theirs.
+// What a line is: a step that was done, with its entry and the number of values of its command; a line that neither bench nor rig prints; or another one
+// of theirs.
 #[derive(Clone, Copy)]
-pub struct Printed {
-    pub done: bool,
-    pub foreign: bool,
-    pub entry: Entry,
-    pub commands: usize,
+pub enum Printed {
+    Step { entry: Entry, commands: usize },
+    Foreign,
+    Other,
 }
 
 fn is_counter(bytes: &[u8]) -> bool
     ensures { result ≡ is_counter bytes.now }
 {
-    is_size(read_magnitude(bytes))
+    read_magnitude(bytes).is_some()
 }
 
 // A number from 1 to `high`.
@@ -34,10 +31,10 @@ fn is_up_to(high: u32, bytes: &[u8]) -> bool
     ensures { result ≡ is_up_to high bytes.now }
 {
     let number = read_magnitude(bytes);
-    if !is_size(number) {
+    if !number.is_some() {
         return false;
     }
-    let size = size_of(number);
+    let size = number.unwrap_or(0);
     if size < 1 {
         return false;
     }
@@ -47,115 +44,84 @@ fn is_up_to(high: u32, bytes: &[u8]) -> bool
 fn is_none(bytes: &[u8]) -> bool
     ensures { result ≡ is_none bytes.now }
 {
-    same(bytes, b"-")
+    bytes == b"-".as_slice()
 }
 
 fn is_ok(bytes: &[u8]) -> bool
     ensures { result ≡ is_ok bytes.now }
 {
-    same(bytes, b"ok")
+    bytes == b"ok".as_slice()
 }
 
 fn is_ignored(bytes: &[u8]) -> bool
     ensures { result ≡ is_ignored bytes.now }
 {
-    same(bytes, b"ignored")
+    bytes == b"ignored".as_slice()
 }
 
 // The number of a refusal.
 fn is_refusal_number(bytes: &[u8]) -> bool
     ensures { result ≡ is_refusal_number bytes.now }
 {
-    if is_up_to(12, bytes) {
-        return true;
-    }
-    if same(bytes, b"16") {
-        return true;
-    }
-    if same(bytes, b"17") {
-        return true;
-    }
-    same(bytes, b"18")
+    is_up_to(12, bytes)
+        || bytes == b"16".as_slice()
+        || bytes == b"17".as_slice()
+        || bytes == b"18".as_slice()
 }
 
 // `r` and a number.
 fn is_refusal(bytes: &[u8]) -> bool
     ensures { result ≡ is_refusal bytes.now }
 {
-    if bytes.len() == 0 {
-        return false;
+    match bytes.strip_prefix(b"r") {
+        Some(number) => is_refusal_number(number),
+        None => false,
     }
-    if bytes[0] != 114 {
-        return false;
-    }
-    is_refusal_number(&bytes[1..])
 }
 
 fn is_bad(bytes: &[u8]) -> bool
     ensures { result ≡ is_bad bytes.now }
 {
-    same(bytes, b"bad")
+    bytes == b"bad".as_slice()
 }
 
 fn is_header(bytes: &[u8]) -> bool
     ensures { result ≡ is_header bytes.now }
 {
-    same(bytes, b"no who answer k v vb kb x frame command")
+    bytes == b"no who answer k v vb kb x frame command".as_slice()
 }
 
 fn is_answer(bytes: &[u8]) -> bool
     ensures { result ≡ (is_ok bytes.now || (is_ignored bytes.now || is_refusal bytes.now)) }
 {
-    if is_ok(bytes) {
-        return true;
-    }
-    if is_ignored(bytes) {
-        return true;
-    }
-    is_refusal(bytes)
+    is_ok(bytes) || is_ignored(bytes) || is_refusal(bytes)
 }
 
 // A command without the star behind it.
 fn unstarred(bytes: &[u8]) -> &[u8]
     ensures { result.now ≡ Lines·unstarred bytes.now }
 {
-    if bytes.len() == 0 {
-        return bytes;
+    match bytes.strip_suffix(b"*") {
+        Some(command) => command,
+        None => bytes,
     }
-    let last = bytes.len() - 1;
-    if bytes[last] == 42 {
-        return &bytes[0..last];
-    }
-    bytes
 }
 
 // Line, box and answer.
 fn head_ok(line: &[u8]) -> bool
     ensures { result ≡ head_ok line.now }
 {
-    if !is_up_to(500, field(line, 0)) {
-        return false;
-    }
-    if !is_up_to(9, field(line, 1)) {
-        return false;
-    }
-    is_answer(field(line, 2))
+    is_up_to(500, field(line, 0)) && is_up_to(9, field(line, 1)) && is_answer(field(line, 2))
 }
 
 // Period, view, base view and base period.
 fn counters_ok(line: &[u8]) -> bool
     ensures { result ≡ counters_ok line.now }
 {
-    if !is_counter(field(line, 3)) {
-        return false;
-    }
-    if !is_counter(field(line, 4)) {
-        return false;
-    }
-    if !is_counter(field(line, 5)) {
-        return false;
-    }
-    is_counter(field(line, 6))
+    is_counter(field(line, 3))
+        && is_counter(field(line, 4))
+        && is_counter(field(line, 5))
+        && is_counter(field(line, 6))
 }
 
 // Whether a field is nothing, or a line's number; of an ask it is a question mark.
@@ -166,9 +132,10 @@ fn is_frame(asks: bool, bytes: &[u8]) -> bool
         return true;
     }
     if asks {
-        return same(bytes, b"?");
+        bytes == b"?".as_slice()
+    } else {
+        is_up_to(500, bytes)
     }
-    is_up_to(500, bytes)
 }
 
 // Whether a field is at most so many numbers.
@@ -176,53 +143,34 @@ fn is_list(most: usize, bytes: &[u8]) -> bool
     requires { most ≤ 6 }
     ensures { result ≡ is_list most bytes.now }
 {
-    let values = values_in(bytes, most);
-    values.count != 0
+    values_in(bytes, most).is_some()
 }
 
 // Whether a field is nothing, or a command.
 fn is_command(bytes: &[u8]) -> bool
     ensures { result ≡ (is_none bytes.now || is_list 4 (Lines·unstarred bytes.now)) }
 {
-    if is_none(bytes) {
-        return true;
-    }
-    is_list(4, unstarred(bytes))
+    is_none(bytes) || is_list(4, unstarred(bytes))
 }
 
 // State, frame and command.
 fn tail_ok(asks: bool, line: &[u8]) -> bool
     ensures { result ≡ tail_ok asks line.now }
 {
-    if !is_list(6, field(line, 7)) {
-        return false;
-    }
-    if !is_frame(asks, field(line, 8)) {
-        return false;
-    }
-    is_command(field(line, 9))
+    is_list(6, field(line, 7)) && is_frame(asks, field(line, 8)) && is_command(field(line, 9))
 }
 
 // The first ten fields.
 fn ten_ok(asks: bool, line: &[u8]) -> bool
     ensures { result ≡ ten_ok asks line.now }
 {
-    if !head_ok(line) {
-        return false;
-    }
-    if !counters_ok(line) {
-        return false;
-    }
-    tail_ok(asks, line)
+    head_ok(line) && counters_ok(line) && tail_ok(asks, line)
 }
 
 fn is_step(line: &[u8]) -> bool
     ensures { result ≡ is_step line.now }
 {
-    if count_spaces(line) != 9 {
-        return false;
-    }
-    ten_ok(false, line)
+    count_spaces(line) == 9 && ten_ok(false, line)
 }
 
 // Ten fields and a ticket.
@@ -235,48 +183,29 @@ fn is_ask(line: &[u8]) -> bool
     if !ten_ok(true, line) {
         return false;
     }
-    is_ticket(ticket_in(field(line, 10)))
+    ticket_in(field(line, 10)).is_some()
 }
 
 // A line's number and `bad`.
 fn is_bad_line(line: &[u8]) -> bool
     ensures { result ≡ (eqb (Fields.spaces line.now) 1 && (is_up_to 500 (Fields.field 0 line.now) && is_bad (Fields.field 1 line.now))) }
 {
-    if count_spaces(line) != 1 {
-        return false;
-    }
-    if !is_up_to(500, field(line, 0)) {
-        return false;
-    }
-    is_bad(field(line, 1))
+    count_spaces(line) == 1 && is_up_to(500, field(line, 0)) && is_bad(field(line, 1))
 }
 
 fn is_other(line: &[u8]) -> bool
     ensures { result ≡ is_other line.now }
 {
-    if is_header(line) {
-        return true;
-    }
-    if is_bad(line) {
-        return true;
-    }
-    if is_refusal(line) {
-        return true;
-    }
-    if is_ask(line) {
-        return true;
-    }
-    is_bad_line(line)
+    is_header(line) || is_bad(line) || is_refusal(line) || is_ask(line) || is_bad_line(line)
 }
 
-// The command of a step's line: the number of its values, and the values.
-fn command_in(bytes: &[u8]) -> Values
+// The command of a step's line, where there is one.
+fn command_in(bytes: &[u8]) -> Option<Values>
     requires { (is_none bytes.now || is_list 4 (Lines·unstarred bytes.now)) ≡ true }
-    ensures { (result.count ≡ pick (is_none bytes.now) 0 (how_many 4 (Lines·unstarred bytes.now)))
-        × (result.values ≡ filled (pos 0) 6 result.count (value_at (Lines·unstarred bytes.now))) }
+    ensures { result ≡ pick (is_none bytes.now) None (Some (values_of 4 (Lines·unstarred bytes.now))) }
 {
     if is_none(bytes) {
-        return no_values();
+        return None;
     }
     values_in(unstarred(bytes), 4)
 }
@@ -293,30 +222,35 @@ fn step_in(line: &[u8]) -> Printed
     requires { is_step line.now ≡ true }
     ensures { result ≡ step_line line.now }
 {
-    let found = command_in(field(line, 9));
-    let values = found.values;
-    let entry = Entry {
-        period: size_of(read_magnitude(field(line, 3))),
-        view: size_of(read_magnitude(field(line, 4))),
-        decided: !is_none(field(line, 9)),
-        command: first_four(values),
-    };
-    Printed {
-        done: true,
-        foreign: false,
-        entry,
-        commands: found.count,
+    let period = read_magnitude(field(line, 3)).unwrap_or(0);
+    let view = read_magnitude(field(line, 4)).unwrap_or(0);
+    match command_in(field(line, 9)) {
+        None => Printed::Step {
+            entry: Entry {
+                period,
+                view,
+                command: None,
+            },
+            commands: 0,
+        },
+        Some(found) => Printed::Step {
+            entry: Entry {
+                period,
+                view,
+                command: Some(first_four(found.values)),
+            },
+            commands: found.count,
+        },
     }
 }
 
 fn no_step(foreign: bool) -> Printed
     ensures { result ≡ no_step foreign }
 {
-    Printed {
-        done: false,
-        foreign,
-        entry: blank(),
-        commands: 0,
+    if foreign {
+        Printed::Foreign
+    } else {
+        Printed::Other
     }
 }
 

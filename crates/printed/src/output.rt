@@ -8,7 +8,7 @@ ghost use Rattle.pages.specs.Placing.{Holds};
 ghost use Rattle.printed.specs.Pages.{paged, most_pages, Pages};
 ghost use Rattle.printed.specs.Placing.{entries_from};
 
-use crate::taking::{MOST, count_passed, first_commands, take_entries};
+use crate::taking::{count_passed, first_commands, take_entries};
 use pages::entries::Entry;
 use pages::lines::{Page, put_lines};
 use pages::placing::{Placed, nothing, place};
@@ -20,7 +20,7 @@ pub const OUTPUT: usize = 39436;
 // 501 entries have room on so many pages.
 const PAGES: usize = 9;
 
-// The length of the pages, and how many lines were passed over.
+// The length of the pages, and how many lines were passed over: two numbers, of which each counts whatever the other is.
 #[derive(Clone, Copy)]
 pub struct Paged {
     pub length: usize,
@@ -34,22 +34,18 @@ fn place_from(from: u64, placed: Placed, entry: Entry) -> Placed
         (pick (ltb entry.period from) (take placed.page.count placed.page.lines) (Page·placed entry (take placed.page.count placed.page.lines)))
         placed.more }
 {
-    let period = entry.period as u64;
-    if period < from {
+    if u64::from(entry.period) < from {
         return placed;
     }
     place(placed, entry)
 }
 
 // The lowest periods from one on, as many as a page has lines.
-fn page_from(from: u64, entries: [Entry; MOST], count: usize) -> Placed
-    requires { count ≤ 501 }
-    ensures { Holds result (on_page (entries_from from (take count entries))) false }
+fn page_from(from: u64, entries: &[Entry]) -> Placed
+    ensures { Holds result (on_page (entries_from from entries.now)) false }
 {
     let mut placed = nothing();
-    let mut i = count;
-    while 0 < i {
-        i -= 1;
+    for i in (0..entries.len()).rev() {
         placed = place_from(from, placed, entries[i]);
     }
     placed
@@ -59,9 +55,7 @@ fn page_from(from: u64, entries: [Entry; MOST], count: usize) -> Placed
 fn period_behind(page: Page) -> u64
     ensures { result ≡ (get_or page.lines 59 blank).period + 1 }
 {
-    let lines = page.lines;
-    let last = lines[59];
-    (last.period as u64) + 1
+    u64::from(page.lines[59].period) + 1
 }
 
 // A line with a form feed alone.
@@ -73,23 +67,20 @@ fn put_form_feed(text: &mut [u8], at: usize) -> usize
 }
 
 // The pages of some entries, to the start of an area.
-fn put_pages(text: &mut [u8], p: usize, entries: [Entry; MOST], count: usize) -> usize
-    requires { (p ≤ 4) × (count ≤ 501) }
-    ensures { Puts text.old 0 (paged p most_pages (on_page (take count entries))) result text.new }
+fn put_pages(text: &mut [u8], p: usize, entries: &[Entry]) -> usize
+    requires { p ≤ 4 }
+    ensures { Puts text.old 0 (paged p most_pages (on_page entries.now)) result text.new }
 {
     let mut end = 0;
-    let mut from: u64 = 0;
-    let mut number = 0;
-    while number < PAGES {
-        let placed = page_from(from, entries, count);
-        let page = placed.page;
-        end = put_lines(text, end, p, page);
+    let mut from = 0;
+    for _ in 0..PAGES {
+        let placed = page_from(from, entries);
+        end = put_lines(text, end, p, placed.page.entries());
         if !placed.more {
             return end;
         }
         end = put_form_feed(text, end);
-        from = period_behind(page);
-        number += 1;
+        from = period_behind(placed.page);
     }
     end
 }
@@ -100,9 +91,7 @@ pub fn pages(text: &[u8], output: &mut [u8; OUTPUT]) -> Paged
 {
     let p = first_commands(text);
     let taken = take_entries(p, text);
-    let entries = taken.entries;
-    let count = taken.count;
-    let length = put_pages(output, p, entries, count);
+    let length = put_pages(output, p, taken.entries());
     Paged {
         length,
         passed: count_passed(p, text),

@@ -1,7 +1,7 @@
 // The entries of a text's lines.
-ghost use Rattle.std.specs.Prelude.{◌≡◌, [], ◌∷◌, ◌++◌, ◌+◌, ◌≤◌, take};
+ghost use Rattle.std.specs.Prelude.{◌≡◌, [], ◌++◌, ◌+◌, ◌≤◌, take};
 ghost use Rattle.lists.specs.Choice.{pick};
-ghost use Rattle.printed.specs.Pages.{printed_in, suits, is_entry, is_passed, first_commands, entries_in, passed_in};
+ghost use Rattle.printed.specs.Pages.{printed_in, suits, commands, entry_on, with_entry, is_passed, first_commands, entries_in, passed_in};
 
 use crate::lines::{Printed, line_in};
 use pages::entries::{Entry, blank};
@@ -14,80 +14,99 @@ pub const MOST: usize = 501;
 fn is_suited(p: usize, n: usize) -> bool
     ensures { result ≡ suits p n }
 {
-    if n == 0 {
-        return true;
-    }
-    n == p
+    n == 0 || n == p
 }
 
-// Whether a line is an entry of pages of p commands.
-fn is_entry(p: usize, printed: Printed) -> bool
-    ensures { result ≡ is_entry p printed }
+// The number of values of the command of a line, 0 where there is none.
+fn commands(printed: Printed) -> usize
+    ensures { result ≡ commands printed }
 {
-    if !printed.done {
-        return false;
+    match printed {
+        Printed::Step { commands, .. } => commands,
+        Printed::Foreign | Printed::Other => 0,
     }
-    is_suited(p, printed.commands)
+}
+
+// The entry of a line on pages of p commands, where it has one.
+fn entry_on(p: usize, printed: Printed) -> Option<Entry>
+    ensures { result ≡ entry_on p printed }
+{
+    match printed {
+        Printed::Step { entry, commands } => {
+            if is_suited(p, commands) {
+                Some(entry)
+            } else {
+                None
+            }
+        }
+        Printed::Foreign | Printed::Other => None,
+    }
 }
 
 // Whether it is passed over.
 fn is_passed(p: usize, printed: Printed) -> bool
     ensures { result ≡ is_passed p printed }
 {
-    if printed.foreign {
-        return true;
+    match printed {
+        Printed::Step { commands, .. } => !is_suited(p, commands),
+        Printed::Foreign => true,
+        Printed::Other => false,
     }
-    if !printed.done {
-        return false;
-    }
-    !is_suited(p, printed.commands)
 }
 
-// The number of values of the first command.
+// The number of values of the first command. Here, in `take_entries` and in `count_passed` a loop of its own goes over the lines: each keeps something else of a
+// line, and an iterator of lines would need a contract over all of its states.
 pub(crate) fn first_commands(text: &[u8]) -> usize
     ensures { result ≡ first_commands (printed_in text.now) }
 {
     let mut at = 0;
-    let mut number = 0;
-    while number < MOST {
+    for _ in 0..MOST {
         if text.len() <= at {
             return 1;
         }
         let stop = line_end(text, at);
-        let printed = line_in(&text[at..stop]);
-        let n = printed.commands;
+        let n = commands(line_in(&text[at..stop]));
         if n != 0 {
             return n;
         }
         at = stop + 1;
-        number += 1;
     }
     1
 }
 
-// The entries of a text: the first `count` are in use.
+// The entries of a text: the first `count` are in use. An array with a length beside it, since nothing here has a heap.
 #[derive(Clone, Copy)]
 pub(crate) struct Taken {
-    pub(crate) entries: [Entry; MOST],
-    pub(crate) count: usize,
+    entries: [Entry; MOST],
+    count: usize,
+}
+
+impl Taken {
+    // Those in use.
+    pub(crate) fn entries(&self) -> &[Entry]
+        requires { self.now.count ≤ 501 }
+        ensures { result.now ≡ take self.now.count self.now.entries }
+    {
+        &self.entries[..self.count]
+    }
 }
 
 // One line more.
 fn with_line(p: usize, taken: Taken, printed: Printed) -> Taken
     requires { taken.count ≤ 500 }
     ensures { (result.count ≤ taken.count + 1)
-        × (take result.count result.entries ≡ take taken.count taken.entries ++ pick (is_entry p printed) (printed.entry ∷ []) []) }
+        × (take result.count result.entries ≡ take taken.count taken.entries ++ with_entry (entry_on p printed) []) }
 {
-    if !is_entry(p, printed) {
-        return taken;
-    }
-    let mut entries = taken.entries;
-    let count = taken.count;
-    let entry = printed.entry;
-    entries[count] = entry;
-    Taken {
-        entries,
-        count: count + 1,
+    match entry_on(p, printed) {
+        None => taken,
+        Some(entry) => {
+            let mut entries = taken.entries;
+            entries[taken.count] = entry;
+            Taken {
+                entries,
+                count: taken.count + 1,
+            }
+        }
     }
 }
 
@@ -100,25 +119,15 @@ pub(crate) fn take_entries(p: usize, text: &[u8]) -> Taken
         count: 0,
     };
     let mut at = 0;
-    let mut number = 0;
-    while number < MOST {
+    for _ in 0..MOST {
         if text.len() <= at {
             return taken;
         }
         let stop = line_end(text, at);
         taken = with_line(p, taken, line_in(&text[at..stop]));
         at = stop + 1;
-        number += 1;
     }
     taken
-}
-
-// One more where a line is passed over.
-fn one_passed(p: usize, n: usize, printed: Printed) -> usize
-    requires { n ≤ 500 }
-    ensures { result ≡ n + pick (is_passed p printed) 1 0 }
-{
-    if is_passed(p, printed) { n + 1 } else { n }
 }
 
 // How many lines of a text are passed over.
@@ -127,15 +136,13 @@ pub(crate) fn count_passed(p: usize, text: &[u8]) -> usize
 {
     let mut passed = 0;
     let mut at = 0;
-    let mut number = 0;
-    while number < MOST {
+    for _ in 0..MOST {
         if text.len() <= at {
             return passed;
         }
         let stop = line_end(text, at);
-        passed = one_passed(p, passed, line_in(&text[at..stop]));
+        passed += usize::from(is_passed(p, line_in(&text[at..stop])));
         at = stop + 1;
-        number += 1;
     }
     passed
 }

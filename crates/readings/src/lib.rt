@@ -2,10 +2,10 @@
 #![tactic(auto)]
 
 ghost use Rattle.std.specs.Prelude.{◌≡◌, ◌≤◌, pos};
-ghost use Rattle.lists.specs.Choice.{pick};
 ghost use Rattle.readings.specs.Readings.{normalised, no_readings, mark_beyond};
 
 // Place j holds the present mark and the value of reading j, counted from 0.
+// Marks beside values, and no options: a row that is handed in may hold a value under an absent mark, which `frame::write` refuses by 8.
 #[derive(Clone, Copy)]
 pub struct Readings {
     pub present: [bool; 4],
@@ -22,36 +22,16 @@ pub fn no_readings() -> Readings
     }
 }
 
-// A value under its mark.
-fn read_value(present: bool, value: i32) -> i32
-    ensures { result ≡ pick present value (pos 0) }
-{
-    if present { value } else { 0 }
-}
-
-// How many of the four places are in use.
-fn in_use(m: usize) -> usize
-    ensures { (result ≤ 4) × (m ≤ 4 → result ≡ m) × (4 ≤ m → result ≡ 4) }
-{
-    if m < 4 { m } else { 4 }
-}
-
 // The first m readings as the law reads them; the places after are absent.
 pub fn normalise(m: usize, y: Readings) -> Readings
     ensures { result ≡ normalised m y }
 {
-    let marks = y.present;
-    let given = y.values;
     let mut present = [false; 4];
     let mut values = [0i32; 4];
-    let n = in_use(m);
-    let mut j = 0;
-    while j < n {
-        let mark = marks[j];
-        let value = given[j];
-        present[j] = mark;
-        values[j] = read_value(mark, value);
-        j += 1;
+    for j in 0..m.min(4) {
+        let value = y.values[j];
+        present[j] = y.present[j];
+        values[j] = if y.present[j] { value } else { 0 };
     }
     Readings { present, values }
 }
@@ -60,13 +40,5 @@ pub fn normalise(m: usize, y: Readings) -> Readings
 pub fn has_mark_beyond(m: usize, y: Readings) -> bool
     ensures { result ≡ mark_beyond m y }
 {
-    let marks = y.present;
-    let mut j = m;
-    while j < 4 {
-        if marks[j] {
-            return true;
-        }
-        j += 1;
-    }
-    false
+    y.present.iter().skip(m).any(|&mark| mark)
 }

@@ -8,6 +8,7 @@ use lib.ListN.{length, take, drop, get_or, set, length-map, get_or-map}
 use lib.Seq.{take-suc, length-take-le, get_or-take, get_or-drop, ext_get_or}
 use lib.Dec.{eqb}
 use borrow.Author.Tests.{eqb-true, eqb-false}
+use Rattle.std.specs.Int.{from_bool}
 use Rattle.lists.specs.Choice.{pick}
 use Rattle.lists.specs.Places.{filled}
 use Rattle.lists.proofs.Places.{filled-same, filled-length, filled_at}
@@ -17,6 +18,12 @@ use Rattle.octets.proofs.Numbers.{length_part}
 use Rattle.octets.proofs.Areas.{put_one, then-put}
 use Rattle.estimate.specs.Marks.{bit}
 use Rattle.records.specs.HeldPart.{heard_bytes, mark_at}
+
+-- a mark as a number
+pub bit-from : (mark : Bool) → from_bool mark ≡ bit mark
+unfolding pick
+bit-from true = refl
+bit-from false = refl
 
 -- a byte for each place
 pub length-heard : (heard : List Bool) → length heard ≡ 10 → length (heard_bytes heard) ≡ 10

@@ -7,6 +7,7 @@ pub mod Joined
 pub mod IsRecord
 pub mod Recorded
 pub mod Facts
+pub mod Results
 pub mod NoBest
 pub mod HeldOk
 pub mod Carried
@@ -16,3 +17,4 @@ pub mod RoundTrip
 pub mod Whole
 pub mod Examples
 pub mod ReturningLaws
+pub mod States

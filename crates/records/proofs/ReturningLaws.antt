@@ -6,14 +6,16 @@ use Prim.Native.Nat.{ℕ, zero, suc, ◌-◌, ◌≤◌, ◌<◌}
 use native.Mathlib.Omega.{arith}
 use native.Mathlib.Numerals.{unary_clauses}
 use lib.Dec.{eqb, ltb}
-use borrow.Author.Tests.{lt-ltb, le-ltb}
+use Rattle.std.specs.Prelude.{Result, Ok, Err, IfOk}
+use borrow.Author.Tests.{lt-ltb, le-ltb, not-true, not-false}
 use Rattle.lists.proofs.Booleans.{or-true}
 use Rattle.lists.proofs.Choice.{pick_true, pick-false, pick-holds}
 use Rattle.lists.proofs.Refusals.{none-holds, first_holds, first-fails}
 use Rattle.readings.specs.Readings.{no_readings}
 use Rattle.transmitters.specs.declared.Reading.TheVariants.{Missing}
 use Rattle.transmitters.specs.Conversion.{converted, converted_row}
-use Rattle.scram.specs.Answers.{Done, Refused}
+use Rattle.refusal.specs.declared.Refusal.{Refusal}
+use Rattle.scram.specs.Answers.{Done, Refused, answered_of}
 use Rattle.scram.specs.Shown.{is_refused}
 use Rattle.replica.specs.declared.Replica.{Replica}
 use Rattle.replica.specs.Settings.{blank_settings}
@@ -102,3 +104,16 @@ module _ (k : ℕ) (b : List ℕ) where
       let z : return_refusal k b ≡ 0 = first-fails 15 _ _ (ap not e) ∙ first-fails 16 _ _ m ∙ none-holds in
       let t = ap (λ (x : ℕ). eqb x 0) z in
       (pick_true _ _ _ t, pick_true _ _ _ t)
+
+-- what staying up gives at the replica of a record, returning gives from its bytes
+module _ (k : ℕ) (b : List ℕ) (r : Replica) (known : is_record b ≡ true) (same : r ≡ replica_in b) where
+  pub returns-up : (up : Result Replica Refusal) → answered_of up ≡ stay_answer k r → IfOk up (λ (x : Replica). x ≡ stayed k r)
+      → (answered_of up ≡ return_answer k b) × IfOk up (λ (x : Replica). x ≡ returned k b)
+  returns-up (Ok x) a e =
+      let few : misses_too_many k r ≡ false = not-true _ (sym (stay-done k r) ∙ ap is_done (sym a)) in
+      let m = return-done k b known (ap (misses_too_many k) (sym same) ∙ few) in
+      (sym m.0, e ∙ (stays k r few).1 ∙ ap (stayed_up k) same ∙ sym m.1)
+  returns-up (Err refusal) a e =
+      let many : misses_too_many k r ≡ true = not-false _ (sym (stay-done k r) ∙ ap is_done (sym a)) in
+      let m = return-16 k b known (ap (misses_too_many k) (sym same) ∙ many) in
+      (a ∙ (stays-not k r many).0 ∙ sym m.0, tt)

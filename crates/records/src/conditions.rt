@@ -15,13 +15,11 @@ use octets::word::u32_at;
 use replica::Best;
 
 // The length, the letter and the version.
+#[tactic(auto, unfolding(crate::specs::Reading::layout_ok))]
 pub fn layout_ok(bytes: &[u8]) -> bool
     ensures { result ≡ layout_ok bytes.now }
 {
-    if bytes.len() != RECORD {
-        return false;
-    }
-    (bytes[0] == LETTER) & (bytes[1] == VERSION)
+    bytes.len() == RECORD && bytes[0] == LETTER && bytes[1] == VERSION
 }
 
 // The bits that are set in any of as many bytes from an offset on: they are below a power of two exactly where each of the bytes is. There is no way out
@@ -30,17 +28,13 @@ fn joined(bytes: &[u8], at: usize, count: usize) -> u8
     requires { at + count ≤ length bytes.now }
     ensures { (k : ℕ) → ltb result (2 ^ k) ≡ all_below count (λ i. ltb (get_or bytes.now (at + i) 0) (2 ^ k)) }
 {
-    let mut bits = 0u8;
-    let mut i = 0;
-    while i < count {
-        bits = bits | bytes[at + i];
-        i += 1;
-    }
-    bits
+    bytes[at..at + count]
+        .iter()
+        .fold(0, |bits, &byte| bits | byte)
 }
 
 // Whether as many bytes from an offset on are 0.
-fn zero_at(bytes: &[u8], at: usize, count: usize) -> bool
+pub fn zero_at(bytes: &[u8], at: usize, count: usize) -> bool
     requires { at + count ≤ length bytes.now }
     ensures { result ≡ zero_at bytes.now at count }
 {
@@ -67,7 +61,7 @@ fn bytes_mean(bytes: &[u8]) -> bool
 fn is_box(boxes: u8, j: u8) -> bool
     ensures { result ≡ is_box boxes j }
 {
-    (1 <= j) & (j <= boxes)
+    (1..=boxes).contains(&j)
 }
 
 // Every box heard is one of the group: no mark at place 0, and none above the number of boxes. The bytes are joined, so that there is no way out before
@@ -78,41 +72,32 @@ fn heard_ok(boxes: u8, bytes: &[u8]) -> bool
 {
     let last = boxes as usize;
     let mut bits = bytes[514];
-    let mut j = 1;
-    while j < 10 {
+    for j in 1..10 {
         if last < j {
-            bits = bits | bytes[514 + j];
+            bits |= bytes[514 + j];
         }
-        j += 1;
     }
     bits == 0
 }
 
-// A state's places from n on are 0.
+// A state's places from n on are 0. By index: a proof has no range of what `skip(n).all` hands to its closure, and needs it to tell bits of 0 from 0.
 fn states_ok(n: usize, state: [i32; 6]) -> bool
     ensures { result ≡ states_ok n state }
 {
-    let mut i = n;
-    while i < 6 {
-        let z = state[i];
-        if z != 0 {
+    for i in n..6 {
+        if state[i] != 0 {
             return false;
         }
-        i += 1;
     }
     true
 }
 
 // An estimate's unused states, and its absent values.
+#[tactic(auto, unfolding(crate::specs::Reading::estimate_ok, crate::specs::Reading::values_ok))]
 fn estimate_ok(n: usize, e: Estimate) -> bool
     ensures { result ≡ estimate_ok n e }
 {
-    let state = e.state;
-    let readings = e.readings;
-    if !states_ok(n, state) {
-        return false;
-    }
-    absent_zero(4, readings)
+    states_ok(n, e.state) && absent_zero(4, e.readings)
 }
 
 // The estimate: no present mark at or above m, no base above its counter, and 0 in all that is not in use.
@@ -129,16 +114,7 @@ fn own_ok(
     requires { (1 ≤ m) × (m ≤ 4) }
     ensures { result ≡ (marks_below m marks && (leb base_view view && (leb base_period period && estimate_ok n e))) }
 {
-    if !marks_below(m, marks) {
-        return false;
-    }
-    if base_view > view {
-        return false;
-    }
-    if base_period > period {
-        return false;
-    }
-    estimate_ok(n, e)
+    marks_below(m, marks) && base_view <= view && base_period <= period && estimate_ok(n, e)
 }
 
 // A best estimate where there is one: it is of a box of the group, and the same is asked of it.
@@ -146,23 +122,17 @@ fn other_ok(boxes: u8, n: usize, m: usize, marks: u8, view: u32, period: u32, be
     requires { (1 ≤ m) × (m ≤ 4) }
     ensures { result ≡ (is_box boxes best.box_number && (marks_below m marks && (leb best.base_view view && (leb best.base_period period && estimate_ok n best.estimate)))) }
 {
-    let number = best.box_number;
-    if !is_box(boxes, number) {
-        return false;
-    }
-    if !marks_below(m, marks) {
-        return false;
-    }
-    let base_view = best.base_view;
-    if base_view > view {
-        return false;
-    }
-    let base_period = best.base_period;
-    if base_period > period {
-        return false;
-    }
-    let e = best.estimate;
-    estimate_ok(n, e)
+    is_box(boxes, best.box_number)
+        && own_ok(
+            n,
+            m,
+            marks,
+            view,
+            period,
+            best.base_view,
+            best.base_period,
+            best.estimate,
+        )
 }
 
 // What is asked of what is held, one condition after the other. Each reads only the bytes that it asks about: reading all that is held first would take

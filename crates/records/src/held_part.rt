@@ -9,25 +9,16 @@ ghost use Rattle.records.specs.HeldPart.{heard_bytes, best_bytes, held_bytes, ma
 
 use estimate::Estimate;
 use estimate::parts::{put_estimate, read_readings, read_state};
-use octets::word::{put_byte, put_u32, u32_at};
+use octets::word::{put_bytes, put_u32, u32_at};
 use replica::{Best, Held};
-
-fn mark_byte(mark: bool) -> u8
-    ensures { result ≡ bit mark }
-{
-    if mark { 1 } else { 0 }
-}
 
 // A byte for each box, place 0 among them.
 fn put_heard(heard: [bool; 10], area: &mut [u8], at: usize)
     requires { at + 10 ≤ length area.old }
     ensures { area.new ≡ put area.old at (heard_bytes heard) }
 {
-    let mut j = 0;
-    while j < 10 {
-        let mark = heard[j];
-        area[at + j] = mark_byte(mark);
-        j += 1;
+    for (j, &mark) in heard.iter().enumerate() {
+        area[at + j] = u8::from(mark);
     }
 }
 
@@ -35,8 +26,8 @@ fn put_best(best: Best, area: &mut [u8], at: usize)
     requires { at + 51 ≤ length area.old }
     ensures { area.new ≡ put area.old at (best_bytes best) }
 {
-    put_byte(area, at, mark_byte(best.any));
-    put_byte(area, at + 1, best.box_number);
+    put_bytes(area, at, &[u8::from(best.any)]);
+    put_bytes(area, at + 1, &[best.box_number]);
     put_u32(area, at + 2, best.base_view);
     put_u32(area, at + 6, best.base_period);
     let estimate = best.estimate;
@@ -67,8 +58,8 @@ fn put_marks(view_change: bool, decided: bool, area: &mut [u8], at: usize)
     requires { at + 2 ≤ length area.old }
     ensures { area.new ≡ put area.old at (bit view_change ∷ bit decided ∷ []) }
 {
-    put_byte(area, at, mark_byte(view_change));
-    put_byte(area, at + 1, mark_byte(decided));
+    put_bytes(area, at, &[u8::from(view_change)]);
+    put_bytes(area, at + 1, &[u8::from(decided)]);
 }
 
 // What is held, as it stands, at an offset.
@@ -105,10 +96,8 @@ fn heard_at(bytes: &[u8], at: usize) -> [bool; 10]
     ensures { result ≡ heard_at bytes.now at }
 {
     let mut heard = [false; 10];
-    let mut j = 0;
-    while j < 10 {
+    for j in 0..10 {
         heard[j] = mark_at(bytes, at + j);
-        j += 1;
     }
     heard
 }

@@ -1,17 +1,18 @@
 // Recording a replica.
 ghost use Rattle.std.specs.Prelude.{◌≡◌, ◌≤◌, length};
 ghost use Rattle.octets.specs.Areas.{over};
-ghost use Rattle.scram.specs.Answers.{answered};
+ghost use Rattle.refusal.specs.Numbers.{number_of};
+ghost use Rattle.scram.specs.Answers.{answered_of};
 ghost use Rattle.estimate.specs.Fields.{first_states, carried_estimate};
-ghost use Rattle.records.specs.Recording.{no_best, recorded_best, recorded_held, record_refusal, record_answer, recorded};
+ghost use Rattle.records.specs.Recording.{recorded_best, recorded_held, record_refusal, record_answer, recorded};
 
 use crate::held_part::put_held;
 use crate::lengths::{RECORD, SETTINGS};
-use crate::reading::settings_refusal_of;
 use crate::settings_part::put_settings;
 use estimate::Estimate;
-use replica::{Best, Held, Replica, Settings};
-use scram::Answer;
+use refusal::Refusal;
+use replica::refusals::check_settings;
+use replica::{Best, Held, Replica, Settings, no_best};
 
 // The first n states, and 0 after them.
 fn first_states(n: usize, state: [i32; 6]) -> [i32; 6]
@@ -19,44 +20,24 @@ fn first_states(n: usize, state: [i32; 6]) -> [i32; 6]
     ensures { result ≡ first_states n state }
 {
     let mut states = state;
-    let mut i = n;
-    while i < 6 {
-        states[i] = 0;
-        i += 1;
-    }
+    states[n..].fill(0);
     states
 }
 
 // An estimate as frames carry it.
+#[tactic(auto, unfolding(estimate::specs::Fields::carried_estimate))]
 fn carried_estimate(n: usize, m: usize, e: Estimate) -> Estimate
     requires { n ≤ 6 }
     ensures { result ≡ carried_estimate n m e }
 {
-    let state = e.state;
-    let given = e.readings;
-    let first = first_states(n, state);
-    let readings = readings::normalise(m, given);
     Estimate {
-        state: first,
-        readings,
-    }
-}
-
-// No best estimate.
-fn no_best() -> Best
-    ensures { result ≡ no_best }
-{
-    let estimate = estimate::no_estimate();
-    Best {
-        any: false,
-        box_number: 0,
-        base_view: 0,
-        base_period: 0,
-        estimate,
+        state: first_states(n, e.state),
+        readings: readings::normalise(m, e.readings),
     }
 }
 
 // What a record has of the best estimate heard.
+#[tactic(auto, unfolding(crate::specs::Recording::recorded_best, lists::specs::Choice::pick))]
 fn recorded_best(n: usize, m: usize, best: Best) -> Best
     requires { n ≤ 6 }
     ensures { result ≡ recorded_best n m best }
@@ -64,54 +45,45 @@ fn recorded_best(n: usize, m: usize, best: Best) -> Best
     if !best.any {
         return no_best();
     }
-    let given = best.estimate;
-    let estimate = carried_estimate(n, m, given);
-    let mut carried = best;
-    carried.estimate = estimate;
-    carried
+    let estimate = carried_estimate(n, m, best.estimate);
+    Best { estimate, ..best }
 }
 
 // What a record has of what is held.
+#[tactic(auto, unfolding(crate::specs::Recording::recorded_held))]
 fn recorded_held(n: usize, m: usize, held: Held) -> Held
     requires { n ≤ 6 }
     ensures { result ≡ recorded_held n m held }
 {
-    let given = held.estimate;
-    let estimate = carried_estimate(n, m, given);
-    let heard_best = held.best;
-    let best = recorded_best(n, m, heard_best);
-    let mut carried = held;
-    carried.estimate = estimate;
-    carried.best = best;
-    carried
+    let estimate = carried_estimate(n, m, held.estimate);
+    let best = recorded_best(n, m, held.best);
+    Held {
+        estimate,
+        best,
+        ..held
+    }
 }
 
-// The number of the refusal of recording, or 0: 1 to 4 and 18 for the settings, then 5.
-pub fn refusal(settings: Settings, area: usize) -> u8
-    ensures { result ≡ record_refusal settings area }
+// Whether recording is refused: by 1 to 4 and 18 for the settings, then by 5 for the area.
+pub fn check_recording(settings: &Settings, area: usize) -> Result<(), Refusal>
+    ensures { number_of result ≡ record_refusal settings.now area }
 {
-    let number = settings_refusal_of(settings);
-    if number != 0 {
-        return number;
-    }
+    check_settings(settings)?;
     if area < RECORD {
-        return 5;
+        return Err(Refusal::Area);
     }
-    0
+    Ok(())
 }
 
 // Writes the record of a replica to the start of an area.
-pub fn write(replica: Replica, area: &mut [u8]) -> Answer
-    ensures answer { answered result ≡ record_answer replica.settings (length area.old) }
+pub fn write(replica: Replica, area: &mut [u8]) -> Result<(), Refusal>
+    ensures answer { answered_of result ≡ record_answer replica.settings (length area.old) }
     ensures area { area.new ≡ over (recorded replica (length area.old)) area.old }
 {
     let settings = replica.settings;
-    let number = refusal(settings, area.len());
-    if number != 0 {
-        return Answer::Refused(number);
-    }
+    check_recording(&settings, area.len())?;
     put_settings(settings, area);
     let held = recorded_held(settings.law.n, settings.law.m, replica.held);
     put_held(held, area, SETTINGS);
-    Answer::Done
+    Ok(())
 }

@@ -1,16 +1,17 @@
 // The settings' part of a record: eight bytes, and the tables whole.
-ghost use Rattle.std.specs.Prelude.{◌≡◌, ◌+◌, ◌≤◌, ◌<◌, length};
+ghost use Rattle.std.specs.Prelude.{◌≡◌, ◌+◌, ◌*◌, ◌≤◌, ◌<◌, length};
+ghost use Rattle.octets.specs.Words.{value_length};
 ghost use Rattle.octets.specs.Areas.{put};
 ghost use Rattle.records.specs.Lengths.{settings_length, record_length};
 ghost use Rattle.records.specs.SettingsPart.{quorums_byte, quorums_in, head_bytes, tables_bytes, settings_bytes, values_at, law_in, settings_in};
 
-use octets::values::{put_values, read_values};
-use octets::word::put_4;
+use octets::values::{VALUE_LENGTH, put_values, read_values};
+use octets::word::put_bytes;
 use quorums::Quorums;
 use replica::Settings;
 
 // Byte 0, the letter R.
-pub(crate) const LETTER: u8 = 82;
+pub(crate) const LETTER: u8 = b'R';
 
 // Byte 1, the version of the layout.
 pub(crate) const VERSION: u8 = 2;
@@ -28,12 +29,12 @@ fn put_head(settings: Settings, area: &mut [u8])
     requires { (8 ≤ length area.old) × (settings.law.n < 256) × (settings.law.m < 256) × (settings.law.p < 256) × (quorums_byte settings.quorums < 256) }
     ensures { area.new ≡ put area.old 0 (head_bytes settings) }
 {
-    put_4(area, 0, LETTER, VERSION, settings.boxes, settings.own);
+    put_bytes(area, 0, &[LETTER, VERSION, settings.boxes, settings.own]);
     let n = settings.law.n as u8;
     let m = settings.law.m as u8;
     let p = settings.law.p as u8;
     let quorums = quorums_byte(settings.quorums);
-    put_4(area, 4, n, m, p, quorums);
+    put_bytes(area, 4, &[n, m, p, quorums]);
 }
 
 // The tables, one after the other.
@@ -60,56 +61,29 @@ pub(crate) fn put_settings(settings: Settings, area: &mut [u8])
     put_tables(law, area);
 }
 
-fn six_values(bytes: &[u8], at: usize) -> [i32; 6]
-    requires { at + 24 ≤ length bytes.now }
-    ensures { result ≡ values_at bytes.now at 6 }
+// As many values from an offset on.
+fn values_at<const N: usize>(bytes: &[u8], at: usize) -> [i32; N]
+    requires { at + value_length * N ≤ length bytes.now }
+    ensures { result ≡ values_at bytes.now at N }
 {
-    let mut values = [0i32; 6];
-    read_values(&bytes[at..at + 24], &mut values);
-    values
-}
-
-fn four_values(bytes: &[u8], at: usize) -> [i32; 4]
-    requires { at + 16 ≤ length bytes.now }
-    ensures { result ≡ values_at bytes.now at 4 }
-{
-    let mut values = [0i32; 4];
-    read_values(&bytes[at..at + 16], &mut values);
-    values
-}
-
-// A table of four rows or columns.
-fn table_24(bytes: &[u8], at: usize) -> [i32; 24]
-    requires { at + 96 ≤ length bytes.now }
-    ensures { result ≡ values_at bytes.now at 24 }
-{
-    let mut values = [0i32; 24];
-    read_values(&bytes[at..at + 96], &mut values);
-    values
-}
-
-// The table of six rows and columns.
-fn table_36(bytes: &[u8], at: usize) -> [i32; 36]
-    requires { at + 144 ≤ length bytes.now }
-    ensures { result ≡ values_at bytes.now at 36 }
-{
-    let mut values = [0i32; 36];
-    read_values(&bytes[at..at + 144], &mut values);
+    let mut values = [0i32; N];
+    read_values(&bytes[at..at + VALUE_LENGTH * N], &mut values);
     values
 }
 
 // The law's settings in a record.
+#[tactic(auto, unfolding(crate::specs::SettingsPart::law_in))]
 fn law_in(bytes: &[u8]) -> law::Settings
     requires { length bytes.now ≡ record_length }
     ensures { result ≡ law_in bytes.now }
 {
-    let a = table_36(bytes, 8);
-    let l = table_24(bytes, 152);
-    let c = table_24(bytes, 248);
-    let k = table_24(bytes, 344);
-    let low = four_values(bytes, 440);
-    let high = four_values(bytes, 456);
-    let start = six_values(bytes, 472);
+    let a = values_at(bytes, 8);
+    let l = values_at(bytes, 152);
+    let c = values_at(bytes, 248);
+    let k = values_at(bytes, 344);
+    let low = values_at(bytes, 440);
+    let high = values_at(bytes, 456);
+    let start = values_at(bytes, 472);
     law::Settings {
         n: bytes[4] as usize,
         m: bytes[5] as usize,
@@ -135,6 +109,7 @@ fn quorums_in(byte: u8) -> Quorums
 }
 
 // The settings in a record.
+#[tactic(auto, unfolding(crate::specs::SettingsPart::settings_in))]
 pub fn settings_in(bytes: &[u8]) -> Settings
     requires { length bytes.now ≡ record_length }
     ensures { result ≡ settings_in bytes.now }

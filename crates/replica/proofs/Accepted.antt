@@ -1,11 +1,6 @@
 -- What settings that are not refused tell: the group's numbers, the law's sizes, and what the rules rely on. Assumes nothing.
-use mathlib.Core.Path.{◌≡◌, refl, sym, ◌∙◌}
-use mathlib.Core.Bool.{Bool, true, false, not, ◌||◌}
-use mathlib.Core.List.{List, [], ◌∷◌}
-use Prim.Native.Nat.{ℕ, ◌+◌, ◌≤◌, ◌<◌}
-use native.Mathlib.Omega.{arith}
-use lib.Dec.{T, eqb, ltb, nltb→le}
-use borrow.Author.Tests.{le-leb, eqb-true, eqb-false}
+use Rattle.std.proofs.Common.{◌≡◌, refl, sym, ◌∙◌, Bool, true, false, not, ◌||◌, List, [], ◌∷◌, ℕ, ◌+◌, ◌≤◌, ◌<◌, arith, T, eqb, ltb, nltb→le, le-leb, eqb-true}
+use Rattle.std.proofs.lemmas.Bool.{eqb-false}
 use Rattle.lists.specs.Refusals.{Refusal, refusal as row, first_of}
 use Rattle.lists.proofs.Booleans.{nor-left, nor-right}
 use Rattle.lists.proofs.Refusals.{first_holds, first-fails, none-holds}

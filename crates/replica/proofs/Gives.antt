@@ -1,13 +1,10 @@
 -- Laws of `Says`, `Does` and `Gives`: rules that change nothing or write nothing, and the step that a rule's move becomes. Assumes nothing.
-use mathlib.Core.Path.{◌≡◌, refl, sym, ap, ◌∙◌, subst}
-use mathlib.Core.Bool.{Bool, true, false, true≢false, false≢true}
-use mathlib.Core.List.{List, [], ◌∷◌}
-use mathlib.Core.Option.{none}
-use Prim.Native.Nat.{ℕ}
-use native.Mathlib.Omega.{arith}
-use lib.ListN.{length}
-use lib.IntN.{ℤ}
+use Rattle.std.proofs.Common.{◌≡◌, refl, sym, ap, ◌∙◌, subst, Bool, true, false, true≢false, List, [], ◌∷◌, ℕ, arith, length, ℤ}
+use Rattle.std.proofs.lemmas.Bool.{false≢true}
+use Rattle.std.proofs.Math.Option.{none}
 use Rattle.lists.specs.Choice.{pick}
+use Rattle.refusal.specs.declared.Refusal.{Refusal}
+use Rattle.refusal.specs.Numbers.{number}
 use Rattle.readings.specs.declared.Readings.{Readings}
 use Rattle.scram.specs.declared.Answer.TheVariants.{Done}
 use Rattle.scram.specs.Held as Scram
@@ -23,15 +20,16 @@ use Rattle.replica.specs.declared.Replica.{Replica}
 use Rattle.replica.specs.Held.{held_in, held_of}
 use Rattle.replica.specs.Frames.{sent_bytes, issued_bytes}
 use Rattle.replica.specs.Calls.{Outcomes, checked, step_refusal, Gives}
-use Rattle.replica.specs.Rules.{Says, command_of, given_by, Does, stepped_by, refused_step, refused_rule, ignored_rule}
-use Rattle.replica.proofs.Calls.{checked_refused, checked-done}
+use Rattle.replica.specs.Rules.{Says, command_of, given_by, Does, stepped_by, refused_step, refused_rule, ignored_rule, tick_refusal}
+use Rattle.replica.proofs.Calls.{checked_refused, checked-done, ticks, tick-refused}
+use Rattle.refusal.proofs.Numbers.{number-not-0}
 
 -- ---- rules
 
 module _ (law : Law.Settings) (member : Member) (h : Held) (frame : List ℕ) where
-  pub says-refused : (number : ℕ) → Says law member (refusing (held_in h) number) (refused_rule h number) frame frame
+  pub says-refused : (r : Refusal) → Says law member (refusing (held_in h) (number r)) (refused_rule h r) frame frame
   unfolding pick
-  says-refused number = record { answer = refl; held = refl; frame-length = refl; frame-bytes = refl; command = refl }
+  says-refused r = record { answer = refl; held = refl; frame-length = refl; frame-bytes = refl; command = refl }
 
   pub says-ignored : Says law member (ignoring (held_in h)) (ignored_rule h) frame frame
   unfolding pick
@@ -116,18 +114,26 @@ gives-done s g = record {
 
 -- ---- refused steps
 
-pub does-refused : {n m p : ℕ} (h : Held) (number : ℕ) (frame command : List ℕ)
-    → Does n m p (refusing (held_in h) number) (refused_step h number) frame frame command command
-does-refused h number frame command =
+pub does-refused : {n m p : ℕ} (h : Held) (r : Refusal) (frame command : List ℕ)
+    → Does n m p (refusing (held_in h) (number r)) (refused_step h r) frame frame command command
+does-refused h r frame command =
     record { answer = refl; held = refl; frame-length = refl; command-length = refl; frame-bytes = refl; command-bytes = refl }
+
+-- 6, 7 and 12 of a tick
+module _ (law : Law.Settings) (member : Member) (h : Held) (m : ℕ) (y taken : Readings) {n k p : ℕ} where
+  pub tick-refuses : (refusal : Refusal) → number refusal ≡ tick_refusal h m y → (frame command : List ℕ)
+      → Does n k p (ticks law member h m y taken) (refused_step h refusal) frame frame command command
+  tick-refuses refusal e frame command =
+      subst (λ o. Does n k p o (refused_step h refusal) frame frame command command)
+      (ap (refusing (held_in h)) e ∙ tick-refused law member h m y taken (λ q. number-not-0 refusal (e ∙ q))) (does-refused h refusal frame command)
 
 -- 1 to 5, with areas so long
 module _ (r : Replica) (frame command : ℕ) {n m p : ℕ} {area room : List ℕ} where
-  pub checked-refuses : (o : Outcomes) (number : ℕ) → number ≡ step_refusal r.settings frame command → (number ≡ 0 → ⊥)
-      → Does n m p (checked r frame command o) (refused_step r.held number) area area room room
-  checked-refuses o number e z =
-      subst (λ o. Does n m p o (refused_step r.held number) area area room room)
-      (ap (refusing (held_in r.held)) e ∙ checked_refused r frame command o (λ q. z (e ∙ q))) (does-refused r.held number area room)
+  pub checked-refuses : (o : Outcomes) (refusal : Refusal) → number refusal ≡ step_refusal r.settings frame command
+      → Does n m p (checked r frame command o) (refused_step r.held refusal) area area room room
+  checked-refuses o refusal e =
+      subst (λ o. Does n m p o (refused_step r.held refusal) area area room room)
+      (ap (refusing (held_in r.held)) e ∙ checked_refused r frame command o (λ q. number-not-0 refusal (e ∙ q))) (does-refused r.held refusal area room)
 
   pub checked-does : {g : Given} {area' room' : List ℕ} (o : Outcomes) → step_refusal r.settings frame command ≡ 0
       → Does n m p o g area area' room room' → Does n m p (checked r frame command o) g area area' room room'

@@ -1,15 +1,11 @@
 -- Settings whose tables are lent one by one are those of the replica: no step looks at the law's starting state. Assumes nothing.
-use mathlib.Core.Path.{◌≡◌, refl, ap}
-use mathlib.Core.Bool.{Bool}
-use mathlib.Core.List.{List}
-use mathlib.Core.Option.{Option, none, some}
-use Prim.Native.Nat.{ℕ}
-use lib.IntN.{ℤ}
+use Rattle.std.proofs.Common.{◌≡◌, refl, ap, ◌∙◌, Bool, List, ℕ, ℤ}
+use Rattle.std.proofs.Math.Option.{Option, none, some}
 use Rattle.readings.specs.declared.Readings.{Readings}
 use Rattle.law.specs.declared.Settings as Law
-use Rattle.law.specs.Settings.{refusals, refusal}
+use Rattle.law.specs.Settings.{lent, refusals, refusal}
 use Rattle.law.specs.Law.{updated, update_limited, commanded, command_limited, issued}
-use Rattle.law.proofs.Lent.{lent}
+use Rattle.law.proofs.Lent.{refusal-lent}
 use Rattle.scram.specs.Held.{Held, Message, Group}
 use Rattle.scram.specs.Events.{raise, after_tick, tick, give_up, hear_ack, hear_estimate, receive, arrive, arrival}
 use Rattle.replica.specs.declared.Settings.{Settings}
@@ -24,6 +20,27 @@ settings-with s = record { boxes = s.boxes; own = s.own; quorums = s.quorums; la
 pub settings-lent : (s : Settings) → settings_refusal (settings-with s) ≡ settings_refusal s
 unfolding settings_refusal refusals
 settings-lent s = refl
+
+-- ---- the law's calls, on the settings as they see them
+
+module _ (law : Law.Settings) {seen : Law.Settings} (e : seen ≡ lent law) where
+  pub refusal-seen : refusal seen ≡ refusal law
+  refusal-seen = ap refusal e ∙ refusal-lent law
+
+  module _ (state : List ℤ) (readings : Readings) where
+    updated-lent : updated (lent law) state readings ≡ updated law state readings
+    unfolding updated refusal refusals
+    updated-lent = refl
+
+    pub updated-seen : updated seen state readings ≡ updated law state readings
+    updated-seen = ap (λ s. updated s state readings) e ∙ updated-lent
+
+    issued-lent : issued (lent law) state readings ≡ issued law state readings
+    unfolding issued commanded command_limited updated update_limited refusal refusals
+    issued-lent = refl
+
+    pub issued-seen : issued seen state readings ≡ issued law state readings
+    issued-seen = ap (λ s. issued s state readings) e ∙ issued-lent
 
 -- ---- steps whose settings stand
 

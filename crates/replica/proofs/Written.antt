@@ -1,19 +1,13 @@
 -- What the writers write where nothing is refused: a frame whose estimate is as frames carry it, and a command. Assumes nothing.
-use mathlib.Core.Path.{◌≡◌, refl}
-use mathlib.Core.Bool.{Bool, true, false, ◌&&◌, false≢true}
-use mathlib.Core.List.{List}
-use Prim.Native.Nat.{ℕ, ◌≤◌}
-use lib.ListN.{length}
-use lib.IntN.{ℤ}
-use lib.Dec.{leb}
-use borrow.Author.Tests.{leb-true}
+use Rattle.std.proofs.Common.{◌≡◌, refl, Bool, true, false, ◌&&◌, List, ℕ, ◌≤◌, length, ℤ, leb, leb-true}
+use Rattle.std.proofs.lemmas.Bool.{false≢true}
 use Rattle.readings.proofs.Normalised.{normalised-twice}
 use Rattle.frame.specs.declared.Frame.{Frame}
 use Rattle.frame.specs.Sizes.{sizes_ok, commands_ok}
 use Rattle.frame.specs.Kinds.{any_of, kind_ok}
 use Rattle.frame.specs.Lengths.{longest_frame, longest_command}
 use Rattle.frame.specs.Format.{frame_bytes}
-use Rattle.frame.specs.Writing.{written}
+use Rattle.frame.specs.Writing.{write_refusal, written}
 use Rattle.frame.specs.Command.{command_bytes, command_written}
 use Rattle.frame.proofs.Refusals.{write_done, frame-written, command-done, command-written}
 use Rattle.frame.proofs.FrameLaws.{normalised-well-formed}
@@ -35,12 +29,14 @@ sized-m n m e = by (leb 1 n) (leb n 6) (leb 1 m) (leb m 4) refl e
     by true false c false q e = absurd (false≢true e)
     by false b c false q e = absurd (false≢true e)
 
-pub frame_is : (n m : ℕ) (f : Frame) (area : List ℕ) → sizes_ok n m ≡ true → kind_ok f.kind ≡ true → longest_frame ≤ length area
-    → written n m (as_carried m f) area ≡ frame_bytes n m (as_carried m f)
-frame_is n m f area sized kind room =
-    frame-written n m (as_carried m f) area
-    (write_done n m (as_carried m f) area sized room
-    (normalised-well-formed m (as_carried m f) (sized-m n m sized) kind (normalised-twice m f.estimate.readings)))
+module _ (n m : ℕ) (f : Frame) (area : List ℕ) (sized : sizes_ok n m ≡ true) (kind : kind_ok f.kind ≡ true) (room : longest_frame ≤ length area) where
+  pub frame_taken : write_refusal n m (as_carried m f) area ≡ 0
+  frame_taken =
+      write_done n m (as_carried m f) area sized room
+      (normalised-well-formed m (as_carried m f) (sized-m n m sized) kind (normalised-twice m f.estimate.readings))
+
+  pub frame_is : written n m (as_carried m f) area ≡ frame_bytes n m (as_carried m f)
+  frame_is = frame-written n m (as_carried m f) area frame_taken
 
 -- each kind is in the frames' table
 pub kind_ok-number : (kind : Kind) → kind_ok (kind_number kind) ≡ true

@@ -2,6 +2,7 @@
 use Rattle.std.specs.Prelude.{ℕ, ◌≡◌, Bool, true, false, ◌&&◌, List, leb, ℤ, length}
 use Rattle.std.proofs.Math.Option.{Option, none, some}
 use Rattle.lists.specs.Choice.{pick}
+use Rattle.refusal.specs.declared.Refusal.{Refusal}
 use Rattle.readings.specs.declared.Readings.{Readings}
 use Rattle.readings.specs.Readings.{mark_beyond}
 use Rattle.scram.specs.declared.Answer.TheVariants.{Ignored, Refused}
@@ -72,12 +73,12 @@ tick_refusal h m y =
     pick (Events.last_period h.period) 6 (pick (mark_beyond m y) 7 (pick (h.view_change && Events.last_view h.view) 12 0))
 
 -- a refused step
-abbrev pub refused_step : Held → ℕ → Given
-refused_step h number = record { answer = Refused number; held = h; frame = 0; command = 0 }
+abbrev pub refused_step : Held → Refusal → Given
+refused_step h refusal = record { answer = Refused refusal; held = h; frame = 0; command = 0 }
 
 -- a refusal by a rule
-abbrev pub refused_rule : Held → ℕ → Moved
-refused_rule h number = record { answer = Refused number; held = h; frame = 0; issues = false }
+abbrev pub refused_rule : Held → Refusal → Moved
+refused_rule h refusal = record { answer = Refused refusal; held = h; frame = 0; issues = false }
 
 -- an event ignored
 abbrev pub ignored_rule : Held → Moved

@@ -1,7 +1,6 @@
 // Frames that arrive: what is refused by 8 to 11, what is ignored, and the rules of the four kinds.
 ghost use Rattle.std.specs.Prelude.{◌≡◌, true, [], ◌≤◌, ◌<◌, length};
 ghost use Rattle.law.specs.declared.Settings as Law;
-ghost use Rattle.frame.specs.Answers.{number};
 ghost use Rattle.frame.specs.Lengths.{longest_frame};
 ghost use Rattle.scram.specs.Events as Events;
 ghost use Rattle.replica.specs.Settings.{Fit, law_of, group_of};
@@ -15,22 +14,20 @@ use crate::refusals::{ignored, refused_rule};
 use crate::rules::propose;
 use crate::{Best, Held, Member, Moved};
 use frame::Frame;
+use refusal::Refusal;
 use scram::{Answer, Kind};
 
-// The kind of a frame that was read.
+// The kind of a frame that was read. No TryFrom: reading gives no number but those of the four kinds, and an Err would have no ground.
+#[tactic(auto, unfolding(crate::specs::Frames::kind_of, lists::specs::Choice::pick))]
 fn kind_of(number: u8) -> Kind
     ensures { result ≡ kind_of number }
 {
-    if number == frame::kinds::PROPOSE {
-        return Kind::Propose;
+    match number {
+        frame::kinds::PROPOSE => Kind::Propose,
+        frame::kinds::ACK => Kind::Ack,
+        frame::kinds::DECIDE => Kind::Decide,
+        _ => Kind::Estimate,
     }
-    if number == frame::kinds::ACK {
-        return Kind::Ack;
-    }
-    if number == frame::kinds::DECIDE {
-        return Kind::Decide;
-    }
-    Kind::Estimate
 }
 
 // A Propose: its view and estimate are adopted, and an Ack goes back.
@@ -39,9 +36,7 @@ fn receive_propose(member: Member, held: Held, f: Frame, frame: &mut [u8]) -> Mo
     ensures { (law : Law.Settings) → Says law member (Events.receive (law_of law) (group_of member) member.own Kind.Propose (held_in held) (message_of f))
         result frame.old frame.new }
 {
-    let adopted = f.estimate;
-    let next = adopting(held, f.view, adopted, held.decided);
-    let estimate = estimate::no_estimate();
+    let next = adopting(held, f.view, f.estimate, held.decided);
     let ack = Frame {
         kind: frame::kinds::ACK,
         sender: member.own,
@@ -49,7 +44,7 @@ fn receive_propose(member: Member, held: Held, f: Frame, frame: &mut [u8]) -> Mo
         view: f.view,
         base_view: 0,
         base_period: 0,
-        estimate,
+        estimate: estimate::no_estimate(),
     };
     let length = send(member.n, member.m, ack, frame);
     Moved {
@@ -65,9 +60,7 @@ fn decide(member: Member, held: Held, box_number: u8, frame: &mut [u8]) -> Moved
     requires { Fit member × (longest_frame ≤ length frame.old) × (box_number < 10) }
     ensures { (law : Law.Settings) → Says law member (decided law member (held_in held) box_number) result frame.old frame.new }
 {
-    let best = held.best;
-    let next = hearing(held, box_number, best, true);
-    let estimate = held.estimate;
+    let next = hearing(held, box_number, held.best, true);
     let decision = Frame {
         kind: frame::kinds::DECIDE,
         sender: member.own,
@@ -75,7 +68,7 @@ fn decide(member: Member, held: Held, box_number: u8, frame: &mut [u8]) -> Moved
         view: held.view,
         base_view: held.view,
         base_period: held.period,
-        estimate,
+        estimate: held.estimate,
     };
     let length = send(member.n, member.m, decision, frame);
     Moved {
@@ -91,8 +84,7 @@ fn quorum_heard(quorum: u8, boxes: u8, heard: [bool; 10], box_number: u8) -> boo
     requires { box_number < 10 }
     ensures { result ≡ quorum_heard quorum boxes heard box_number }
 {
-    let more = with_box(heard, box_number);
-    quorum <= scram::quorum::count_heard(more, boxes)
+    quorum <= scram::quorum::count_heard(with_box(heard, box_number), boxes)
 }
 
 // An Ack: at the boxes needed to decide the box decides.
@@ -101,13 +93,15 @@ fn hear_ack(member: Member, held: Held, box_number: u8, frame: &mut [u8]) -> Mov
     ensures { (law : Law.Settings) → Says law member (Events.hear_ack (law_of law) (group_of member) member.own (held_in held) box_number)
         result frame.old frame.new }
 {
-    let heard = held.heard;
-    let needed = member.quorums.to_decide;
-    if quorum_heard(needed, member.boxes, heard, box_number) {
+    if quorum_heard(
+        member.quorums.to_decide,
+        member.boxes,
+        held.heard,
+        box_number,
+    ) {
         return decide(member, held, box_number, frame);
     }
-    let best = held.best;
-    let next = hearing(held, box_number, best, held.decided);
+    let next = hearing(held, box_number, held.best, held.decided);
     Moved {
         answer: Answer::Done,
         held: next,
@@ -120,8 +114,7 @@ fn hear_ack(member: Member, held: Held, box_number: u8, frame: &mut [u8]) -> Mov
 fn receive_decide(held: Held, f: Frame) -> Moved
     ensures { (law : Law.Settings) (member : Member) → Says law member (Events.receive (law_of law) (group_of member) member.own Kind.Decide (held_in held) (message_of f)) result [] [] }
 {
-    let estimate = f.estimate;
-    let next = adopting(held, f.view, estimate, true);
+    let next = adopting(held, f.view, f.estimate, true);
     Moved {
         answer: Answer::Done,
         held: next,
@@ -136,14 +129,15 @@ fn hear_estimate(member: Member, held: Held, given: Best, frame: &mut [u8]) -> M
     ensures { (law : Law.Settings) → Says law member (Events.hear_estimate (law_of law) (group_of member) member.own (held_in held) (best_in given))
         result frame.old frame.new }
 {
-    let before = held.best;
-    let best = better(before, given);
+    let best = better(held.best, given);
     let box_number = given.box_number;
-    let heard = held.heard;
-    let needed = member.quorums.to_propose;
-    if quorum_heard(needed, member.boxes, heard, box_number) {
-        let estimate = best.estimate;
-        return propose(member, held, estimate, frame);
+    if quorum_heard(
+        member.quorums.to_propose,
+        member.boxes,
+        held.heard,
+        box_number,
+    ) {
+        return propose(member, held, best.estimate, frame);
     }
     let next = hearing(held, box_number, best, held.decided);
     Moved {
@@ -160,13 +154,12 @@ fn receive_estimate(member: Member, held: Held, f: Frame, frame: &mut [u8]) -> M
     ensures { (law : Law.Settings) → Says law member (Events.receive (law_of law) (group_of member) member.own Kind.Estimate (held_in held) (message_of f))
         result frame.old frame.new }
 {
-    let estimate = f.estimate;
     let given = Best {
         any: true,
         box_number: f.sender,
         base_view: f.base_view,
         base_period: f.base_period,
-        estimate,
+        estimate: f.estimate,
     };
     if held.view < f.view {
         return hear_estimate(member, entered(member.own, held, f.view), given, frame);
@@ -193,16 +186,10 @@ fn ignores(held: Held, kind: Kind, f: Frame) -> bool
     requires { (f.sender < 10) × (kind ≡ kind_of f.kind) }
     ensures { result ≡ Events.ignores (held_in held) (message_of f) }
 {
-    if scram::ignored::idle(held.period, held.decided) {
-        return true;
-    }
-    if scram::ignored::stale(held.period, held.view, f.period, f.view) {
-        return true;
-    }
-    let at = f.sender as usize;
-    let boxes = held.heard;
-    let heard = boxes[at];
-    scram::ignored::unwanted(kind, held.view, held.view_change, heard, f.view)
+    let heard = held.heard[f.sender as usize];
+    scram::ignored::idle(held.period, held.decided)
+        || scram::ignored::stale(held.period, held.view, f.period, f.view)
+        || scram::ignored::unwanted(kind, held.view, held.view_change, heard, f.view)
 }
 
 // A frame that was read: 9 to 11, then the grounds for ignoring, then its rule.
@@ -212,18 +199,15 @@ fn arrive_frame(member: Member, held: Held, f: Frame, frame: &mut [u8]) -> Moved
         result frame.old frame.new }
 {
     let kind = kind_of(f.kind);
-    let sender = scram::refusals::bad_sender(member.boxes, member.own, f.sender);
     let coordinator = scram::quorum::coordinator(member.boxes, f.view);
-    let place = scram::refusals::bad_place(kind, coordinator, member.own, f.sender);
-    let base = scram::refusals::bad_base(kind, f.period, f.view, f.base_view, f.base_period);
-    if sender {
-        return refused_rule(held, 9);
+    if scram::refusals::bad_sender(member.boxes, member.own, f.sender) {
+        return refused_rule(held, Refusal::Sender);
     }
-    if place {
-        return refused_rule(held, 10);
+    if scram::refusals::bad_place(kind, coordinator, member.own, f.sender) {
+        return refused_rule(held, Refusal::Place);
     }
-    if base {
-        return refused_rule(held, 11);
+    if scram::refusals::bad_base(kind, f.period, f.view, f.base_view, f.base_period) {
+        return refused_rule(held, Refusal::Base);
     }
     if ignores(held, kind, f) {
         return ignored(held);
@@ -237,11 +221,8 @@ pub(crate) fn arrive_bytes(member: Member, held: Held, bytes: &[u8], frame: &mut
     ensures { (law : Law.Settings) → Says law member (Events.arrival (law_of law) (group_of member) member.own (held_in held)
         (found member.n member.m bytes.now)) result frame.old frame.new }
 {
-    let parsed = frame::read(member.n, member.m, bytes);
-    let answer = parsed.answer;
-    if frame::number_of(answer) != 0 {
-        return refused_rule(held, 8);
+    match frame::read(member.n, member.m, bytes) {
+        Ok(f) => arrive_frame(member, held, f, frame),
+        Err(_) => refused_rule(held, Refusal::Frame),
     }
-    let f = parsed.frame;
-    arrive_frame(member, held, f, frame)
 }

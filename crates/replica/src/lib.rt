@@ -9,17 +9,19 @@ mod output;
 pub mod refusals;
 mod rules;
 
-ghost use Rattle.std.specs.Prelude.{◌≡◌, length};
-ghost use Rattle.scram.specs.Answers.{answered};
+ghost use Rattle.std.specs.Prelude.{◌≡◌, length, IfOk};
+ghost use Rattle.scram.specs.Answers.{answered_of};
 ghost use Rattle.transmitters.specs.Conversion.{converted_row};
 ghost use Rattle.replica.specs.Calls.{tick_outcome, give_up_outcome, arrive_outcome, Gives, made_answer, made, fresh_of};
 ghost use Rattle.replica.specs.Settings.{blank_settings};
 ghost use Rattle.replica.specs.Rules.{stepped_by};
 
 use estimate::Estimate;
+pub use moves::no_best;
 use moves::{blank_settings, fresh};
 use quorums::Quorums;
-use refusals::settings_refusal;
+use refusal::Refusal;
+use refusals::check_settings;
 use scram::Answer;
 use transmitters::Reading;
 
@@ -32,7 +34,25 @@ pub struct Settings {
     pub law: law::Settings,
 }
 
+impl Settings {
+    ghost use Rattle.replica.specs.Settings.{member_of};
+
+    // The few numbers that the rules need.
+    fn member(&self) -> Member
+        ensures { result ≡ member_of self.now }
+    {
+        Member {
+            boxes: self.boxes,
+            own: self.own,
+            quorums: self.quorums,
+            n: self.law.n,
+            m: self.law.m,
+        }
+    }
+}
+
 // The best estimate heard in a view change: whether there is one, the box that it came from, its bases, and the estimate.
+// No Option: a replica handed in may hold anything beside `any: false`, and a step gives that back (`replica` of `Gives`, by `held_of`).
 #[derive(Clone, Copy)]
 pub struct Best {
     pub any: bool,
@@ -42,7 +62,8 @@ pub struct Best {
     pub estimate: Estimate,
 }
 
-// What a replica holds besides its settings, which no event changes. Place j of heard is for box j.
+// What a replica holds besides its settings, which no event changes. Place j of heard is for box j. Mode and decided are facts of their own, whatever stands
+// beside them.
 #[derive(Clone, Copy)]
 pub struct Held {
     pub period: u32,
@@ -63,6 +84,7 @@ pub struct Replica {
 }
 
 // What a step gives back: its answer, the replica, and the lengths written to the two lent areas, 0 where nothing was.
+// No Result: a replica "goes into a step and comes back from it" (docs/SPECIFICATION.md), whatever the answer is.
 #[derive(Clone, Copy)]
 pub struct Stepped {
     pub answer: Answer,
@@ -72,6 +94,7 @@ pub struct Stepped {
 }
 
 // What a step gives beside the settings, which stay: its answer, what is held then, and the lengths written to the two lent areas, 0 where nothing was.
+// No Result, for the same reason: what is held goes in by value and comes back.
 #[derive(Clone, Copy)]
 pub struct Given {
     pub answer: Answer,
@@ -80,14 +103,8 @@ pub struct Given {
     pub command: usize,
 }
 
-// What making gives: the fresh replica, or a blank one where the settings are refused.
-#[derive(Clone, Copy)]
-pub struct Made {
-    pub answer: Answer,
-    pub replica: Replica,
-}
-
 // The few numbers of the settings that the rules need: N, the own number, the quorum numbers, and the sizes of a frame.
+// No ghost field for `Fit`: `member_of` and `group_of` of specs/Settings.antt are of settings that are refused too, and give a Member with no proof.
 #[derive(Clone, Copy)]
 struct Member {
     boxes: u8,
@@ -98,6 +115,7 @@ struct Member {
 }
 
 // What a rule gives: the answer, what is held then, the length of the frame sent, and whether the command of the estimate held is issued.
+// No Result: what is held comes back whatever the answer is.
 #[derive(Clone, Copy)]
 struct Moved {
     answer: Answer,
@@ -108,29 +126,12 @@ struct Moved {
 
 impl Replica {
     // A fresh replica.
-    pub fn make(settings: Settings) -> Made
-        ensures answer { answered result.answer ≡ made_answer settings }
-        ensures replica { result.replica ≡ made settings }
+    pub fn make(settings: Settings) -> Result<Replica, Refusal>
+        ensures answer { answered_of result ≡ made_answer settings }
+        ensures replica { IfOk result (λ replica. replica ≡ made settings) }
     {
-        let law = settings.law;
-        let number = settings_refusal(
-            settings.boxes,
-            settings.own,
-            settings.quorums,
-            law::check(law),
-        );
-        if number != 0 {
-            let replica = blank();
-            return Made {
-                answer: Answer::Refused(number),
-                replica,
-            };
-        }
-        let replica = fresh(settings);
-        Made {
-            answer: Answer::Done,
-            replica,
-        }
+        check_settings(&settings)?;
+        Ok(fresh(settings))
     }
 
     // A tick with readings as the transmitters send them. Nothing looks at the row before it is converted.
@@ -139,24 +140,7 @@ impl Replica {
             result frame.old frame.new command.old command.new }
     {
         let converted = transmitters::convert_row(readings);
-        let given = checked::tick(
-            self.settings.boxes,
-            self.settings.own,
-            self.settings.quorums,
-            self.settings.law.n,
-            self.settings.law.m,
-            self.settings.law.p,
-            &self.settings.law.a,
-            &self.settings.law.l,
-            &self.settings.law.c,
-            &self.settings.law.k,
-            &self.settings.law.low,
-            &self.settings.law.high,
-            self.held,
-            converted,
-            frame,
-            command.len(),
-        );
+        let given = checked::tick(&self.settings, self.held, converted, frame, command.len());
         step_of(self, given)
     }
 
@@ -165,23 +149,7 @@ impl Replica {
         ensures { Gives self.settings (give_up_outcome self (length frame.old) (length command.old))
             result frame.old frame.new command.old command.new }
     {
-        let given = checked::give_up(
-            self.settings.boxes,
-            self.settings.own,
-            self.settings.quorums,
-            self.settings.law.n,
-            self.settings.law.m,
-            self.settings.law.p,
-            &self.settings.law.a,
-            &self.settings.law.l,
-            &self.settings.law.c,
-            &self.settings.law.k,
-            &self.settings.law.low,
-            &self.settings.law.high,
-            self.held,
-            frame,
-            command.len(),
-        );
+        let given = checked::give_up(&self.settings, self.held, frame, command.len());
         step_of(self, given)
     }
 
@@ -190,24 +158,7 @@ impl Replica {
         ensures { Gives self.settings (arrive_outcome self bytes.now (length frame.old) (length command.old))
             result frame.old frame.new command.old command.new }
     {
-        let given = checked::arrive(
-            self.settings.boxes,
-            self.settings.own,
-            self.settings.quorums,
-            self.settings.law.n,
-            self.settings.law.m,
-            self.settings.law.p,
-            &self.settings.law.a,
-            &self.settings.law.l,
-            &self.settings.law.c,
-            &self.settings.law.k,
-            &self.settings.law.low,
-            &self.settings.law.high,
-            self.held,
-            bytes,
-            frame,
-            command,
-        );
+        let given = checked::arrive(&self.settings, self.held, bytes, frame, command);
         step_of(self, given)
     }
 }
@@ -223,13 +174,12 @@ pub fn blank() -> Replica
 fn step_of(replica: Replica, given: Given) -> Stepped
     ensures { result ≡ stepped_by replica.settings given }
 {
-    let answer = given.answer;
-    let settings = replica.settings;
-    let held = given.held;
-    let next = Replica { settings, held };
     Stepped {
-        answer,
-        replica: next,
+        answer: given.answer,
+        replica: Replica {
+            settings: replica.settings,
+            held: given.held,
+        },
         frame: given.frame,
         command: given.command,
     }

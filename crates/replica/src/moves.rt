@@ -15,16 +15,15 @@ use quorums::Quorums;
 use readings::Readings;
 
 // No estimate heard yet.
-fn no_best() -> Best
+pub fn no_best() -> Best
     ensures { (law : Law.Settings) → result ≡ best_of (Scram.no_best (law_of law)) }
 {
-    let estimate = estimate::no_estimate();
     Best {
         any: false,
         box_number: 0,
         base_view: 0,
         base_period: 0,
-        estimate,
+        estimate: estimate::no_estimate(),
     }
 }
 
@@ -33,10 +32,7 @@ fn only(own: u8) -> [bool; 10]
     requires { own < 10 }
     ensures { result ≡ with nobody own }
 {
-    let mut heard = [false; 10];
-    let at = own as usize;
-    heard[at] = true;
-    heard
+    with_box([false; 10], own)
 }
 
 // The boxes heard, with one more.
@@ -45,8 +41,7 @@ pub(crate) fn with_box(heard: [bool; 10], box_number: u8) -> [bool; 10]
     ensures { result ≡ with heard box_number }
 {
     let mut more = heard;
-    let at = box_number as usize;
-    more[at] = true;
+    more[box_number as usize] = true;
     more
 }
 
@@ -55,41 +50,34 @@ fn first_values(values: [i32; 6], n: usize) -> [i32; 6]
     requires { n ≤ 6 }
     ensures { result ≡ filled (pos 0) 6 n (entry values) }
 {
-    let mut r = [0i32; 6];
-    let mut i = 0;
-    while i < n {
-        let z = values[i];
-        r[i] = z;
-        i += 1;
-    }
-    r
+    let mut first = [0; 6];
+    first[..n].copy_from_slice(&values[..n]);
+    first
 }
 
 // Settings of nothing.
 pub(crate) fn blank_settings() -> Settings
     ensures { result ≡ blank_settings }
 {
-    let law = law::Settings {
-        n: 0,
-        m: 0,
-        p: 0,
-        a: [0i32; 36],
-        l: [0i32; 24],
-        c: [0i32; 24],
-        k: [0i32; 24],
-        low: [0i32; 4],
-        high: [0i32; 4],
-        start: [0i32; 6],
-    };
-    let quorums = Quorums {
-        to_decide: 0,
-        to_propose: 0,
-    };
     Settings {
         boxes: 0,
         own: 0,
-        quorums,
-        law,
+        quorums: Quorums {
+            to_decide: 0,
+            to_propose: 0,
+        },
+        law: law::Settings {
+            n: 0,
+            m: 0,
+            p: 0,
+            a: [0; 36],
+            l: [0; 24],
+            c: [0; 24],
+            k: [0; 24],
+            low: [0; 4],
+            high: [0; 4],
+            start: [0; 6],
+        },
     }
 }
 
@@ -98,12 +86,10 @@ pub(crate) fn fresh(settings: Settings) -> Replica
     requires { settings.law.n ≤ 6 }
     ensures { result ≡ record { settings = settings; held = held_of (Scram.fresh (law_of settings.law)) } }
 {
-    let start = settings.law.start;
-    let n = settings.law.n;
-    let state = first_values(start, n);
-    let readings = readings::no_readings();
-    let estimate = Estimate { state, readings };
-    let best = no_best();
+    let estimate = Estimate {
+        state: first_values(settings.law.start, settings.law.n),
+        readings: readings::no_readings(),
+    };
     let held = Held {
         period: 0,
         view: 0,
@@ -113,7 +99,7 @@ pub(crate) fn fresh(settings: Settings) -> Replica
         estimate,
         base_period: 0,
         heard: [false; 10],
-        best,
+        best: no_best(),
     };
     Replica { settings, held }
 }
@@ -125,15 +111,14 @@ pub(crate) fn ticked(held: Held, m: usize, updated: [i32; 6], readings: Readings
         → result ≡ held_of (Events.ticked (law_of law) (held_in held) (normalised m readings)) }
 {
     let taken = readings::normalise(m, readings);
-    let estimate = next_estimate(held, updated, taken);
-    let best = no_best();
-    let mut next = held;
-    next.period = held.period + 1;
-    next.decided = false;
-    next.estimate = estimate;
-    next.heard = [false; 10];
-    next.best = best;
-    next
+    Held {
+        period: held.period + 1,
+        decided: false,
+        estimate: next_estimate(held, updated, taken),
+        heard: [false; 10],
+        best: no_best(),
+        ..held
+    }
 }
 
 // The estimate that the next period starts with: the readings taken, and no update on the first tick.
@@ -141,14 +126,15 @@ fn next_estimate(held: Held, updated: [i32; 6], taken: Readings) -> Estimate
     ensures { (law : Law.Settings) → updated ≡ (law_of law).update held.estimate.state held.estimate.readings
         → result ≡ record { state = Events.next_state (law_of law) (held_in held); readings = taken } }
 {
-    let before = held.estimate;
-    let mut renewed = before;
-    renewed.readings = taken;
-    if held.period == 0 {
-        return renewed;
+    let state = if held.period == 0 {
+        held.estimate.state
+    } else {
+        updated
+    };
+    Estimate {
+        state,
+        readings: taken,
     }
-    renewed.state = updated;
-    renewed
 }
 
 // A view entered as its coordinator.
@@ -156,52 +142,49 @@ pub(crate) fn entered(own: u8, held: Held, view: u32) -> Held
     requires { own < 10 }
     ensures { result ≡ held_of (Events.entered own (held_in held) view) }
 {
-    let estimate = held.estimate;
-    let best = Best {
-        any: true,
-        box_number: own,
-        base_view: held.base_view,
-        base_period: held.base_period,
-        estimate,
-    };
-    let heard = only(own);
-    let mut next = held;
-    next.view = view;
-    next.view_change = true;
-    next.heard = heard;
-    next.best = best;
-    next
+    Held {
+        view,
+        view_change: true,
+        heard: only(own),
+        best: Best {
+            any: true,
+            box_number: own,
+            base_view: held.base_view,
+            base_period: held.base_period,
+            estimate: held.estimate,
+        },
+        ..held
+    }
 }
 
 // A view entered as another box.
 pub(crate) fn following(held: Held, view: u32) -> Held
     ensures { (law : Law.Settings) → result ≡ held_of (Events.following (law_of law) (held_in held) view) }
 {
-    let best = no_best();
-    let mut next = held;
-    next.view = view;
-    next.view_change = false;
-    next.heard = [false; 10];
-    next.best = best;
-    next
+    Held {
+        view,
+        view_change: false,
+        heard: [false; 10],
+        best: no_best(),
+        ..held
+    }
 }
 
 // View and estimate adopted from a frame.
 pub(crate) fn adopting(held: Held, view: u32, estimate: Estimate, decided: bool) -> Held
     ensures { (law : Law.Settings) → result ≡ held_of (Events.adopting (law_of law) (held_in held) view (estimate_in estimate) decided) }
 {
-    let period = held.period;
-    let best = no_best();
-    let mut next = held;
-    next.view = view;
-    next.base_view = view;
-    next.view_change = false;
-    next.decided = decided;
-    next.estimate = estimate;
-    next.base_period = period;
-    next.heard = [false; 10];
-    next.best = best;
-    next
+    Held {
+        view,
+        base_view: view,
+        view_change: false,
+        decided,
+        estimate,
+        base_period: held.period,
+        heard: [false; 10],
+        best: no_best(),
+        ..held
+    }
 }
 
 // An estimate proposed, with the coordinator's own acknowledgement.
@@ -209,16 +192,11 @@ pub(crate) fn proposing(own: u8, held: Held, estimate: Estimate) -> Held
     requires { own < 10 }
     ensures { (law : Law.Settings) → result ≡ held_of (Events.proposing (law_of law) own (held_in held) (estimate_in estimate)) }
 {
-    let best = no_best();
     let acknowledged = only(own);
-    let mut next = held;
-    next.base_view = held.view;
-    next.view_change = false;
-    next.estimate = estimate;
-    next.base_period = held.period;
-    next.heard = acknowledged;
-    next.best = best;
-    next
+    Held {
+        heard: acknowledged,
+        ..adopting(held, held.view, estimate, held.decided)
+    }
 }
 
 // One box more heard, and the best estimate then.
@@ -226,31 +204,31 @@ pub(crate) fn hearing(held: Held, box_number: u8, best: Best, decided: bool) -> 
     requires { box_number < 10 }
     ensures { result ≡ held_of (Events.hearing (held_in held) box_number (best_in best) decided) }
 {
-    let before = held.heard;
-    let heard = with_box(before, box_number);
-    let mut next = held;
-    next.decided = decided;
-    next.heard = heard;
-    next.best = best;
-    next
+    Held {
+        decided,
+        heard: with_box(held.heard, box_number),
+        best,
+        ..held
+    }
 }
 
 // The better of two estimates.
+#[tactic(auto, unfolding(scram::specs::Events::better, lists::specs::Choice::pick))]
 pub(crate) fn better(b: Best, c: Best) -> Best
     ensures { result ≡ best_of (Events.better (best_in b) (best_in c)) }
 {
-    if !b.any {
-        return c;
+    if !b.any
+        || scram::quorum::beats(
+            c.base_view,
+            c.base_period,
+            c.box_number,
+            b.base_view,
+            b.base_period,
+            b.box_number,
+        )
+    {
+        c
+    } else {
+        b
     }
-    if scram::quorum::beats(
-        c.base_view,
-        c.base_period,
-        c.box_number,
-        b.base_view,
-        b.base_period,
-        b.box_number,
-    ) {
-        return c;
-    }
-    b
 }

@@ -1,118 +1,80 @@
 // Refusals 1 to 7, 12 and 18, which need no frame: the settings, the lent areas, and the tick.
 ghost use Rattle.std.specs.Prelude.{◌≡◌, ◌&&◌};
-ghost use Rattle.law.specs.declared.Settings as Law;
-ghost use Rattle.law.specs.Answer.{number};
-ghost use Rattle.law.specs.Settings.{refusal};
+ghost use Rattle.refusal.specs.Numbers.{number, number_of};
 ghost use Rattle.scram.specs.Events as Events;
 ghost use Rattle.replica.specs.Settings.{bad_group, settings_refusal};
 ghost use Rattle.replica.specs.Calls.{short_area, step_refusal};
 ghost use Rattle.replica.specs.Rules.{tick_refusal, refused_step, refused_rule, ignored_rule};
 
-use crate::{Given, Held, Moved};
-use quorums::{Quorums, bad_quorums};
+use crate::{Given, Held, Moved, Settings};
+use quorums::bad_quorums;
 use readings::Readings;
+use refusal::Refusal;
 use scram::Answer;
 
 // 1: N is not 3 to 9, or the own number not 1 to N.
+#[tactic(auto, unfolding(crate::specs::Settings::bad_group))]
 fn bad_group(n: u8, own: u8) -> bool
     ensures { result ≡ bad_group n own }
 {
-    if n < 3 {
-        return true;
-    }
-    if 9 < n {
-        return true;
-    }
-    if own < 1 {
-        return true;
-    }
-    n < own
+    n < 3 || 9 < n || own < 1 || n < own
 }
 
-// The number of the refusal of settings, or 0: 1, then the law's own answer, then 18.
-pub fn settings_refusal(boxes: u8, own: u8, quorums: Quorums, law: law::Answer) -> u8
-    ensures { (s : Law.Settings) → number law ≡ refusal s → result ≡ settings_refusal (record { boxes = boxes; own = own; quorums = quorums; law = s }) }
+// Whether settings are refused: by 1, then by the law, then by 18.
+pub fn check_settings(settings: &Settings) -> Result<(), Refusal>
+    ensures { number_of result ≡ settings_refusal settings.now }
 {
-    if bad_group(boxes, own) {
-        return 1;
+    if bad_group(settings.boxes, settings.own) {
+        return Err(Refusal::Group);
     }
-    let of_law = law::number_of(law);
-    let bad = bad_quorums(boxes, quorums);
-    if of_law != 0 {
-        return of_law;
+    settings.law.tables().check()?;
+    if bad_quorums(settings.boxes, settings.quorums) {
+        return Err(Refusal::Quorums);
     }
-    if bad {
-        return 18;
-    }
-    0
+    Ok(())
 }
 
 // 5: an area is shorter than the longest frame or command.
 pub fn short_area(frame: usize, command: usize) -> bool
     ensures { result ≡ short_area frame command }
 {
-    if frame < frame::lengths::LONGEST_FRAME {
-        return true;
-    }
-    command < frame::lengths::LONGEST_COMMAND
+    frame < frame::lengths::LONGEST_FRAME || command < frame::lengths::LONGEST_COMMAND
 }
 
-// The number of the refusal of any step, or 0: 1 to 4 and 18 for the settings, then 5 for the areas.
-pub(crate) fn step_refusal(
-    boxes: u8,
-    own: u8,
-    quorums: Quorums,
-    law: law::Answer,
-    frame: usize,
-    command: usize,
-) -> u8
-    ensures { (s : Law.Settings) → number law ≡ refusal s → result ≡ step_refusal (record { boxes = boxes; own = own; quorums = quorums; law = s }) frame command }
+// Whether any step is refused: by 1 to 4 and 18 for the settings, then by 5 for the areas.
+pub(crate) fn check_step(settings: &Settings, frame: usize, command: usize) -> Result<(), Refusal>
+    ensures { number_of result ≡ step_refusal settings.now frame command }
 {
-    let number = settings_refusal(boxes, own, quorums, law);
-    let short = short_area(frame, command);
-    if number != 0 {
-        return number;
+    check_settings(settings)?;
+    if short_area(frame, command) {
+        return Err(Refusal::Area);
     }
-    if short {
-        return 5;
-    }
-    0
+    Ok(())
 }
 
-// The number of the refusal of a tick, or 0: 6, then 7, then 12 where the view would be raised.
-pub(crate) fn tick_refusal(held: Held, m: usize, readings: Readings) -> u8
-    ensures { result ≡ tick_refusal held m readings }
+// Whether a tick is refused: by 6, then by 7, then by 12 where the view would be raised.
+#[tactic(auto, unfolding(crate::specs::Rules::tick_refusal, lists::specs::Choice::pick))]
+pub(crate) fn check_tick(held: Held, m: usize, readings: Readings) -> Result<(), Refusal>
+    ensures { number_of result ≡ tick_refusal held m readings }
 {
-    let beyond = readings::has_mark_beyond(m, readings);
-    let last = raises_last_view(held);
-    if 4294967295 <= held.period {
-        return 6;
+    if held.period == u32::MAX {
+        return Err(Refusal::LastPeriod);
     }
-    if beyond {
-        return 7;
+    if readings::has_mark_beyond(m, readings) {
+        return Err(Refusal::Mark);
     }
-    if last {
-        return 12;
+    if held.view_change && held.view == u32::MAX {
+        return Err(Refusal::LastView);
     }
-    0
-}
-
-// Whether a tick would raise a view that is the largest.
-fn raises_last_view(held: Held) -> bool
-    ensures { result ≡ (held.view_change && Events.last_view held.view) }
-{
-    if held.view_change {
-        return 4294967295 <= held.view;
-    }
-    false
+    Ok(())
 }
 
 // A refused step: nothing has changed.
-pub(crate) fn refused(held: Held, number: u8) -> Given
-    ensures { result ≡ refused_step held number }
+pub(crate) fn refused(held: Held, refusal: Refusal) -> Given
+    ensures { result ≡ refused_step held refusal }
 {
     Given {
-        answer: Answer::Refused(number),
+        answer: Answer::Refused(refusal),
         held,
         frame: 0,
         command: 0,
@@ -120,11 +82,11 @@ pub(crate) fn refused(held: Held, number: u8) -> Given
 }
 
 // A refusal by a rule: nothing has changed.
-pub(crate) fn refused_rule(held: Held, number: u8) -> Moved
-    ensures { result ≡ refused_rule held number }
+pub(crate) fn refused_rule(held: Held, refusal: Refusal) -> Moved
+    ensures { result ≡ refused_rule held refusal }
 {
     Moved {
-        answer: Answer::Refused(number),
+        answer: Answer::Refused(refusal),
         held,
         frame: 0,
         issues: false,

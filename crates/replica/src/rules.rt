@@ -13,6 +13,7 @@ use crate::refusals::{ignored, refused_rule};
 use crate::{Held, Member, Moved};
 use estimate::Estimate;
 use frame::Frame;
+use refusal::Refusal;
 use scram::Answer;
 
 // Whether a box coordinates a view.
@@ -53,7 +54,6 @@ fn follow(member: Member, held: Held, view: u32, frame: &mut [u8]) -> Moved
     ensures { (law : Law.Settings) → Says law member (followed law member (held_in held) view) result frame.old frame.new }
 {
     let next = following(held, view);
-    let estimate = held.estimate;
     let own_estimate = Frame {
         kind: frame::kinds::ESTIMATE,
         sender: member.own,
@@ -61,7 +61,7 @@ fn follow(member: Member, held: Held, view: u32, frame: &mut [u8]) -> Moved
         view,
         base_view: held.base_view,
         base_period: held.base_period,
-        estimate,
+        estimate: held.estimate,
     };
     let length = send(member.n, member.m, own_estimate, frame);
     Moved {
@@ -101,8 +101,7 @@ pub(crate) fn after_tick(member: Member, held: Held, frame: &mut [u8]) -> Moved
         return raise(member, held, frame);
     }
     if leads(member, held.view) {
-        let estimate = held.estimate;
-        return propose(member, held, estimate, frame);
+        return propose(member, held, held.estimate, frame);
     }
     Moved {
         answer: Answer::Done,
@@ -118,14 +117,11 @@ pub(crate) fn give_up_view(member: Member, held: Held, frame: &mut [u8]) -> Move
     ensures { (law : Law.Settings) → Says law member (Events.give_up (law_of law) (group_of member) member.own (held_in held))
         result frame.old frame.new }
 {
-    if scram::ignored::idle(held.period, held.decided) {
+    if scram::ignored::idle(held.period, held.decided) || normal_coordinator(member, held) {
         return ignored(held);
     }
-    if normal_coordinator(member, held) {
-        return ignored(held);
-    }
-    if 4294967295 <= held.view {
-        return refused_rule(held, 12);
+    if held.view == u32::MAX {
+        return refused_rule(held, Refusal::LastView);
     }
     raise(member, held, frame)
 }
@@ -134,8 +130,5 @@ pub(crate) fn give_up_view(member: Member, held: Held, frame: &mut [u8]) -> Move
 fn normal_coordinator(member: Member, held: Held) -> bool
     ensures { result ≡ (not held.view_change && Events.leads (group_of member) member.own held.view) }
 {
-    if held.view_change {
-        return false;
-    }
-    leads(member, held.view)
+    !held.view_change && leads(member, held.view)
 }

@@ -1,12 +1,13 @@
 // What is said on standard error of a first line that is refused. Which field or refusal it is, the contract of `opening::wrong::wrong_in` says.
 use opening::wrong::{Wrong, wrong_in};
-use text::printing::{at_most, put_decimal, put_word};
+use refusal::Refusal;
+use text::printing::{put_decimal, put_word};
 
 // Every message has room.
 const MESSAGE: usize = 128;
 
 fn put_number(text: &mut [u8], at: usize, n: usize) -> usize {
-    put_decimal(text, at, at_most(n, 4294967295) as u32)
+    put_decimal(text, at, u32::try_from(n).unwrap_or(u32::MAX))
 }
 
 // What a field should be, and is not.
@@ -52,20 +53,20 @@ fn put_fields(text: &mut [u8], fields: usize, needed: usize) -> usize {
     put_word(text, at, b"\n")
 }
 
-fn put_refusal(text: &mut [u8], number: u8) -> usize {
-    match number {
-        1 => put_word(text, 0, b"rig: refused by 1: N is not 3 to 9\n"),
-        2 => put_word(
+fn put_refusal(text: &mut [u8], refusal: Refusal) -> usize {
+    match refusal {
+        Refusal::Group => put_word(text, 0, b"rig: refused by 1: N is not 3 to 9\n"),
+        Refusal::Sizes => put_word(
             text,
             0,
             b"rig: refused by 2: n is not 1 to 6, or m or p not 1 to 4\n",
         ),
-        3 => put_word(
+        Refusal::Coefficient => put_word(
             text,
             0,
             b"rig: refused by 3: a coefficient is below -16777216 or above 16777216\n",
         ),
-        4 => put_word(
+        Refusal::Limits => put_word(
             text,
             0,
             b"rig: refused by 4: a lower limit is above its upper\n",
@@ -80,17 +81,18 @@ fn put_refusal(text: &mut [u8], number: u8) -> usize {
 
 fn put_message(text: &mut [u8], wrong: Wrong) -> usize {
     match wrong {
-        Wrong::Nothing => 0,
         Wrong::Field(field) => put_field(text, field),
         Wrong::Quorum(field) => put_quorum(text, field),
         Wrong::Fields(fields, needed) => put_fields(text, fields, needed),
-        Wrong::Refused(number) => put_refusal(text, number),
+        Wrong::Refused(refusal) => put_refusal(text, refusal),
     }
 }
 
 // Says what is wrong with a first line, if anything is.
 pub(crate) fn say(stderr: &impl Print, line: &[u8]) {
-    let mut message = [0u8; MESSAGE];
-    let n = put_message(&mut message, wrong_in(line));
-    console::write_error(stderr, &message, n);
+    if let Some(wrong) = wrong_in(line) {
+        let mut message = [0u8; MESSAGE];
+        let n = put_message(&mut message, wrong);
+        console::write_error(stderr, &message, n);
+    }
 }

@@ -5,7 +5,7 @@
 
 mod errors;
 
-use console::CHUNK;
+use console::{CHUNK, Gathered};
 use script::output::OUTPUT;
 
 // The first line and at most 500 others, each cut at 2,048 bytes, and their line feeds.
@@ -30,15 +30,13 @@ fn run(
     text: &mut [u8; TEXT],
     output: &mut [u8; OUTPUT],
 ) {
-    let mut gathered = console::nothing();
+    let mut gathered = Gathered::new();
     let mut printed = 0;
     let mut played = 0;
-    let mut turns = u64::MAX;
-    while 0 < turns {
-        turns -= 1;
-        gathered = console::read_more(rt, gathered, LINES, chunk, text);
-        let size = console::ready(gathered);
-        if (played < size) | (gathered.ended & (printed == 0)) {
+    for _ in 0..u64::MAX {
+        gathered = gathered.read_more(rt, LINES, chunk, text);
+        let size = gathered.ready();
+        if played < size || gathered.ended && printed == 0 {
             printed = play(rt, console::first(text, size), output, printed);
             played = size;
         }

@@ -1,26 +1,29 @@
 // Writes a frame of each kind and two commands, and says what reading and writing answer on whole frames and on damaged ones.
 #![tactic(auto)]
 
+ghost use Rattle.std.specs.Prelude.{◌≤◌};
+
 mod damage;
 mod print;
 mod samples;
 
-use damage::{damage, lengths, reading};
-use frame::{Frame, Written};
+use damage::{damage, lengths, number, reading};
+use frame::Frame;
 use print::{number_line, rows, text, written_line};
+use refusal::Refusal;
 use samples::{absent_value, ack, decide, estimate, fifth_kind, mark_beyond, propose};
 
 // A frame's bytes, in an area that held `filler` in every byte.
 fn bytes_of(frame: Frame, filler: u8) -> [u8; 80] {
     let mut area = [filler; 80];
-    frame::write(4, 2, frame, &mut area);
+    let _ = frame::write(4, 2, frame, &mut area);
     area
 }
 
 // A command's bytes, in an area that held aa in every byte.
 fn command_bytes(limited: bool) -> [u8; 80] {
     let mut area = [170u8; 80];
-    frame::write_command(2, 258, [50i32, -50, 7, 7], limited, &mut area);
+    let _ = frame::write_command(2, 258, [50i32, -50, 7, 7], limited, &mut area);
     area
 }
 
@@ -89,45 +92,43 @@ fn damaged(rt: &impl Print) {
     );
 }
 
-fn to_69(n: usize, frame: Frame) -> Written {
-    let mut area = [0u8; frame::lengths::LONGEST_FRAME];
+// What writing answers to an area of that many bytes.
+fn write_to<const ROOM: usize>(n: usize, frame: Frame) -> Result<usize, Refusal>
+    requires { ROOM ≤ 69 }
+{
+    let mut area = [0u8; ROOM];
     frame::write(n, 2, frame, &mut area)
 }
 
-fn to_68(n: usize, frame: Frame) -> Written {
-    let mut area = [0u8; 68];
-    frame::write(n, 2, frame, &mut area)
-}
-
-fn command_to_24(p: usize) -> Written {
-    let mut area = [0u8; 24];
+fn command_to<const ROOM: usize>(p: usize) -> Result<usize, Refusal>
+    requires { ROOM ≤ 24 }
+{
+    let mut area = [0u8; ROOM];
     frame::write_command(p, 1, [1i32, 2, 3, 4], false, &mut area)
 }
 
-fn command_to_23(p: usize) -> Written {
-    let mut area = [0u8; 23];
-    frame::write_command(p, 1, [1i32, 2, 3, 4], false, &mut area)
-}
-
-fn written(rt: &impl Print, label: &[u8], w: Written) {
-    let answer = w.answer;
-    written_line(rt, label, frame::number_of(answer), w.length);
+fn written(rt: &impl Print, label: &[u8], answer: Result<usize, Refusal>) {
+    written_line(rt, label, number(answer.err()), answer.unwrap_or(0));
 }
 
 fn writes(rt: &impl Print) {
     text(rt, b"Writing: answer and length\n");
-    written(rt, b"  Propose to 69 bytes: ", to_69(4, propose()));
-    written(rt, b"  Propose to 68 bytes: ", to_68(4, propose()));
-    written(rt, b"  Ack to 68 bytes: ", to_68(4, ack()));
-    written(rt, b"  n = 7, to 68 bytes: ", to_68(7, propose()));
-    written(rt, b"  kind 5: ", to_69(4, fifth_kind()));
-    written(rt, b"  a mark at m: ", to_69(4, mark_beyond()));
-    written(rt, b"  a value that is absent: ", to_69(4, absent_value()));
-    written(rt, b"  command, p = 0: ", command_to_24(0));
-    written(rt, b"  command, p = 1: ", command_to_24(1));
-    written(rt, b"  command, p = 4: ", command_to_24(4));
-    written(rt, b"  command, p = 5, to 23 bytes: ", command_to_23(5));
-    written(rt, b"  command, p = 1, to 23 bytes: ", command_to_23(1));
+    written(rt, b"  Propose to 69 bytes: ", write_to::<69>(4, propose()));
+    written(rt, b"  Propose to 68 bytes: ", write_to::<68>(4, propose()));
+    written(rt, b"  Ack to 68 bytes: ", write_to::<68>(4, ack()));
+    written(rt, b"  n = 7, to 68 bytes: ", write_to::<68>(7, propose()));
+    written(rt, b"  kind 5: ", write_to::<69>(4, fifth_kind()));
+    written(rt, b"  a mark at m: ", write_to::<69>(4, mark_beyond()));
+    written(
+        rt,
+        b"  a value that is absent: ",
+        write_to::<69>(4, absent_value()),
+    );
+    written(rt, b"  command, p = 0: ", command_to::<24>(0));
+    written(rt, b"  command, p = 1: ", command_to::<24>(1));
+    written(rt, b"  command, p = 4: ", command_to::<24>(4));
+    written(rt, b"  command, p = 5, to 23 bytes: ", command_to::<23>(5));
+    written(rt, b"  command, p = 1, to 23 bytes: ", command_to::<23>(1));
 }
 
 fn main(rt: HostRuntime) {

@@ -1,6 +1,7 @@
 -- The agreement theorem, and the laws that it stands on.
 pub mod Boxes
 pub mod Rows
+pub mod Counting
 pub mod Facts
 pub mod Growth
 pub mod Periods

@@ -1,5 +1,5 @@
 // The grounds for ignoring, on plain numbers.
-ghost use Rattle.std.specs.Prelude.{◌≡◌, not, ◌&&◌, ◌||◌, eqb, ltb};
+ghost use Rattle.std.specs.Prelude.{◌≡◌};
 ghost use Rattle.scram.specs.Events.{idle, stale, unwanted};
 
 use crate::Kind;
@@ -8,54 +8,24 @@ use crate::Kind;
 pub fn idle(period: u32, decided: bool) -> bool
     ensures { result ≡ idle period decided }
 {
-    if period == 0 {
-        return true;
-    }
-    decided
+    period == 0 || decided
 }
 
 // The frame is of another period or of a lower view.
 pub fn stale(period: u32, view: u32, frame_period: u32, frame_view: u32) -> bool
     ensures { result ≡ stale period view frame_period frame_view }
 {
-    if frame_period != period {
-        return true;
-    }
-    frame_view < view
+    frame_period != period || frame_view < view
 }
 
 // The frame's kind is not wanted in this view and mode, or its sender was heard already.
+#[tactic(auto, unfolding(crate::specs::Events::unwanted))]
 pub fn unwanted(kind: Kind, view: u32, view_change: bool, heard: bool, frame_view: u32) -> bool
     ensures { result ≡ unwanted kind view view_change heard frame_view }
 {
     match kind {
-        Kind::Propose => false,
-        Kind::Ack => unwanted_ack(view, view_change, heard, frame_view),
-        Kind::Decide => false,
-        Kind::Estimate => unwanted_estimate(view, view_change, heard, frame_view),
+        Kind::Propose | Kind::Decide => false,
+        Kind::Ack => view < frame_view || view_change || heard,
+        Kind::Estimate => frame_view == view && (!view_change || heard),
     }
-}
-
-fn unwanted_ack(view: u32, view_change: bool, heard: bool, frame_view: u32) -> bool
-    ensures { result ≡ (ltb view frame_view || view_change || heard) }
-{
-    if view < frame_view {
-        return true;
-    }
-    if view_change {
-        return true;
-    }
-    heard
-}
-
-fn unwanted_estimate(view: u32, view_change: bool, heard: bool, frame_view: u32) -> bool
-    ensures { result ≡ (eqb frame_view view && (not view_change || heard)) }
-{
-    if frame_view != view {
-        return false;
-    }
-    if view_change {
-        return heard;
-    }
-    true
 }

@@ -5,8 +5,10 @@ pub mod ignored;
 pub mod quorum;
 pub mod refusals;
 
+use refusal::Refusal;
+
 // The kinds of frames: 1 Propose, 2 Ack, 3 Decide, 4 Estimate.
-#[derive(Clone, Copy)]
+#[derive(Clone, Copy, Debug, PartialEq, Eq)]
 pub enum Kind {
     Propose,
     Ack,
@@ -14,10 +16,10 @@ pub enum Kind {
     Estimate,
 }
 
-// What a step answers: what was called for was done, the event was ignored, or it was refused by a number of document 01.
-#[derive(Clone, Copy)]
+// What a step answers: what was called for was done, the event was ignored, or it was refused.
+#[derive(Clone, Copy, Debug, PartialEq, Eq)]
 pub enum Answer {
     Done,
     Ignored,
-    Refused(u8),
+    Refused(Refusal),
 }

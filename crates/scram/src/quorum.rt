@@ -1,9 +1,9 @@
 // Majority, coordinator, the boxes heard, and which of two estimates is the better.
-ghost use Rattle.std.specs.Prelude.{◌≡◌};
-ghost use Rattle.lists.specs.Choice.{pick};
+ghost use Rattle.std.specs.Prelude.{◌≡◌, take, drop, count_by};
 ghost use Rattle.scram.specs.Quorum.{majority, coordinator, beats, among, count};
 
 // The majority of a group of n boxes.
+#[tactic(auto, unfolding(crate::specs::Quorum::majority))]
 pub fn majority(n: u8) -> u8
     ensures { result ≡ majority n }
 {
@@ -11,13 +11,15 @@ pub fn majority(n: u8) -> u8
 }
 
 // The coordinator of a view among n boxes.
+#[tactic(auto, using(crate::proofs::Counting::by_size))]
 pub fn coordinator(n: u8, view: u32) -> u8
     ensures { result ≡ coordinator n view }
 {
     if n == 0 {
-        return 0;
+        0
+    } else {
+        (view % u32::from(n)) as u8 + 1
     }
-    (view % (n as u32)) as u8 + 1
 }
 
 // Whether the first of two estimates, each by its base view, base period and box, is the better.
@@ -32,41 +34,25 @@ pub fn beats(
 ) -> bool
     ensures { result ≡ beats base_view base_period box_number other_base_view other_base_period other_box }
 {
-    if other_base_view < base_view {
-        return true;
-    }
-    if base_view < other_base_view {
-        return false;
-    }
-    if other_base_period < base_period {
-        return true;
-    }
-    if base_period < other_base_period {
-        return false;
-    }
-    box_number < other_box
+    (other_base_view, other_base_period, box_number) < (base_view, base_period, other_box)
 }
 
 // How many of the boxes 1 to n were heard; a box without a place was not.
+#[tactic(auto, using(crate::proofs::Counting::heard_counted))]
 pub fn count_heard(heard: [bool; 10], n: u8) -> u8
     ensures { result ≡ count (among heard) n }
 {
-    let mut total: u8 = 0;
-    let mut j: u8 = 0;
-    while j < n {
-        total += heard_one(heard, j + 1);
-        j += 1;
-    }
-    total
+    marked(heard, n)
 }
 
-// 1 where a box was heard, else 0.
-fn heard_one(heard: [bool; 10], j: u8) -> u8
-    ensures { result ≡ pick (among heard j) 1 0 }
+// How many of the first n places after place 0 are marked. The chain has a function of its own, since its list is what the search gives.
+fn marked(heard: [bool; 10], n: u8) -> u8
+    ensures { result ≡ count_by (λ b. b) (take n (drop 1 heard)) }
 {
-    let at = j as usize;
-    if 10 <= at {
-        return 0;
-    }
-    if heard[at] { 1 } else { 0 }
+    heard
+        .iter()
+        .skip(1)
+        .take(usize::from(n))
+        .filter(|is_heard| **is_heard)
+        .count() as u8
 }

@@ -1,6 +1,5 @@
 -- Laws of a line played, how long it is and what it leaves, and of a script's lines.
 pub mod LineLengths
-pub mod DigitLaws
 pub mod BoxLaws
 pub mod AskLaws
 pub mod PlayLaws

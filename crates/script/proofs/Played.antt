@@ -8,7 +8,7 @@ use native.Mathlib.Numerals.{add-one}
 use lib.ListN.{length, get_or, take, drop, set, length-set}
 use lib.Seq.{drop-drop}
 use Rattle.line.specs.declared.events.Called.{Called}
-use Rattle.line.specs.Events.{readings_of, called}
+use Rattle.line.specs.Events.{called}
 use Rattle.transmitters.specs.declared.Reading.{Reading}
 use Rattle.text.proofs.PrintingLaws.{put-within}
 use Rattle.script.specs.declared.boxes.Kept.{Kept}
@@ -32,7 +32,7 @@ played-none of_rig boxes m number l = refl
 -- what a line played leaves is what the line leaves
 module _ (held : List Kept) (table lengths table' lengths' output output' : List ℕ) (number end place : ℕ) (c : Called) (before : Kept)
     (y : List Reading) (one : PlayedLine) where
-  after_one : place ≡ place_of c.event → before ≡ kept_at held place → y ≡ readings_of c.readings → end + line_room ≤ length output
+  after_one : place ≡ place_of c.event → before ≡ kept_at held place → y ≡ c.readings → end + line_room ≤ length output
       → Leaves (after_event before c.asks c.event y number table lengths) end one table' lengths' output output'
       → after_call (left held table lengths (take end output)) number c ≡ left (set held place one.kept) table' lengths' (take one.end output')
   unfolding after_call
@@ -66,7 +66,7 @@ module _ (of_rig : Bool) (boxes m start : ℕ) (text output₀ : List ℕ) (enou
       → take (stop - at) (drop at text) ≡ first_line (drop at text)
       → drop (stop + 1) text ≡ after_line (drop at text)
       → c ≡ called of_rig boxes m (take (stop - at) (drop at text))
-      → place ≡ place_of c.event → place ≤ 9 → before ≡ get_or held place other → y ≡ readings_of c.readings
+      → place ≡ place_of c.event → place ≤ 9 → before ≡ get_or held place other → y ≡ c.readings
       → length table' ≡ length table → length lengths' ≡ length lengths → length output' ≡ length output
       → Leaves (after_event before c.asks c.event y (number + 1) table lengths) end one table' lengths' output output'
       → Sofar of_rig boxes m start text output₀ whole output' (set held place one.kept) table' lengths' one.end (stop + 1) (number + 1)

@@ -1,16 +1,17 @@
 -- A whole script: its lines, what they leave one after the other, and what `bench` and `rig` print of it.
-use Rattle.std.specs.Prelude.{ℕ, suc, ◌+◌, ◌*◌, min, ◌≡◌, Bool, true, false, List, [], ◌∷◌, ◌++◌, length, get_or, set, replicate, eqb}
+use Rattle.std.specs.Prelude.{ℕ, suc, ◌+◌, ◌*◌, min, ◌≡◌, Bool, true, false, List, [], ◌∷◌, ◌++◌, length, get_or, set, replicate, eqb, Result, Ok, Err}
 use Rattle.lists.specs.Choice.{pick}
 use Rattle.octets.specs.Areas.{over}
 use Rattle.text.specs.Lines.{first_line, after_line, lines_of}
 use Rattle.line.specs.declared.events.Called.{Called}
-use Rattle.line.specs.Events.{readings_of, called}
+use Rattle.line.specs.Events.{called}
 use Rattle.replica.specs.declared.Settings.{Settings}
 use Rattle.replica.specs.Settings.{blank_settings}
 use Rattle.replica.specs.Settings.{settings_refusal}
 use Rattle.replica.specs.Calls.{made}
-use Rattle.opening.specs.declared.Opening.{Opening}
-use Rattle.opening.specs.declared.Opening.TheVariants.{Bad, Refused, Ready}
+use Rattle.refusal.specs.Numbers.{number}
+use Rattle.opening.specs.declared.Unopened.{Unopened}
+use Rattle.opening.specs.declared.Unopened.TheVariants.{Bad, Refused}
 use Rattle.opening.specs.Opening.{sizes_in, opened_by}
 use Rattle.setup.specs.Bench.{bench}
 use Rattle.script.specs.declared.boxes.Kept.{Kept}
@@ -42,7 +43,7 @@ kept_at kept place = get_or kept place (unstored (made blank_settings))
 -- one line more, of this number, that calls for c: what the line leaves is kept of its box then, and what the line prints is printed after
 unfoldable pub after_call : Left → ℕ → Called → Left
 after_call l number c =
-    let a = after_event (kept_at l.kept (place_of c.event)) c.asks c.event (readings_of c.readings) number l.table l.lengths in
+    let a = after_event (kept_at l.kept (place_of c.event)) c.asks c.event c.readings number l.table l.lengths in
     record {
       kept = set l.kept (place_of c.event) a.kept;
       table = a.table;
@@ -71,16 +72,14 @@ unfoldable pub group_output : Settings → List ℕ → List ℕ
 group_output s text = pick (eqb (settings_refusal s) 0) (left_by true s text).printed (refusal_line (settings_refusal s))
 
 -- what it prints of a first line: `bad` or the refusal of its sizes alone, or what the group that it describes prints of the lines after
-unfoldable pub opened_output : Opening → Settings → List ℕ → List ℕ
-opened_output Bad s text = bad_alone
-opened_output (Refused number) s text = refusal_line number
-opened_output Ready s text = group_output s text
+unfoldable pub opened_output : Result Settings Unopened → List ℕ → List ℕ
+opened_output (Ok s) text = group_output s text
+opened_output (Err (Refused refusal)) text = refusal_line (number refusal)
+opened_output (Err Bad) text = bad_alone
 
 -- what program `rig` prints of the text on its standard input: the first line describes a group, and the lines after are played
 unfoldable pub rig_output : List ℕ → List ℕ
-rig_output text =
-    let o = opened_by (first_line text) (sizes_in (first_line text)) in
-    opened_output o.opening o.settings (after_line text)
+rig_output text = opened_output (opened_by (first_line text) (sizes_in (first_line text))) (after_line text)
 
 -- no script prints more: the header line, and `most` lines
 abbrev pub output_room : ℕ

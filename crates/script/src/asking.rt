@@ -4,7 +4,7 @@ ghost use Rattle.lists.specs.Choice.{pick};
 ghost use Rattle.script.specs.Boxes.{Gives, ticked, given_up, arrived};
 ghost use Rattle.script.specs.Asking.{Asks, asking, ask_giving, not_asked as Asking·not_asked, ask_of, committing, asked_replica, storing_asked};
 
-use crate::boxes::{Effect, Kept, Latest, Outgoing, only_where, quiet, with_record, with_ticketed};
+use crate::boxes::{Effect, Kept, Latest, Outgoing, quiet, with_record, with_ticketed};
 use asks::{Asked, Ticketed};
 use frame::lengths::{LONGEST_COMMAND, LONGEST_FRAME};
 use line::events::Event;
@@ -14,7 +14,7 @@ use replica::Replica;
 use scram::Answer;
 use transmitters::Reading;
 
-// What an ask gives: its answer and its ticket, what is kept of the box then, and the replica that is shown.
+// What an ask gives: its answer and its ticket, what is kept of the box then, and the replica that is shown. No Result: they count whatever the answer is.
 #[derive(Clone, Copy)]
 pub(crate) struct AskEffect {
     pub(crate) answer: Answer,
@@ -27,20 +27,22 @@ pub(crate) struct AskEffect {
 fn asked_replica(ticketed: Ticketed) -> Replica
     ensures { result ≡ asked_replica ticketed }
 {
-    let settings = ticketed.replica.settings;
-    let held = ticketed.tickets.held;
-    Replica { settings, held }
+    Replica {
+        settings: ticketed.replica.settings,
+        held: ticketed.tickets.held,
+    }
 }
 
 // The replica that is shown of an ask: the one that its step would leave, where its answer is ok.
+#[tactic(auto, unfolding(lists::specs::Choice::pick))]
 fn shown_of(ok: bool, ticketed: Ticketed) -> Replica
     ensures { result ≡ pick ok (asked_replica ticketed) ticketed.replica }
 {
     if ok {
-        return asked_replica(ticketed);
+        asked_replica(ticketed)
+    } else {
+        ticketed.replica
     }
-    let replica = ticketed.replica;
-    replica
 }
 
 // An ask gave this, with these areas.
@@ -52,39 +54,36 @@ fn asked(
 ) -> AskEffect
     ensures { result ≡ ask_giving kept one frame command }
 {
-    let answer = one.answer;
-    let ok = is_done(answer);
+    let ok = is_done(one.answer);
     let gave = Outgoing {
         frame,
         sent: one.frame,
         command,
         issued: one.command,
     };
-    let latest = Latest { ok, gave };
-    let ticketed = one.ticketed;
-    let recorded = kept.recorded;
-    let after = Kept {
-        ticketed,
-        stored: kept.stored,
-        recorded,
-        latest,
-    };
     AskEffect {
-        answer,
+        answer: one.answer,
         ticket: one.ticket,
-        kept: after,
-        shown: shown_of(ok, ticketed),
+        kept: Kept {
+            ticketed: one.ticketed,
+            latest: Latest { ok, gave },
+            ..kept
+        },
+        shown: shown_of(ok, one.ticketed),
     }
 }
 
+// Three bodies with one call apart: the areas that a step writes are its own, and a closure over the step would have to be handed them and say what it does
+// to each.
 fn ask_tick(kept: Kept, readings: [Reading; 4]) -> AskEffect
     ensures { Asks (asking kept (ticked kept readings)) result }
 {
     let mut area = [0u8; RECORD];
     let mut frame = [0u8; LONGEST_FRAME];
     let mut command = [0u8; LONGEST_COMMAND];
-    let ticketed = kept.ticketed;
-    let one = ticketed.ask_tick(readings, &mut area, &mut frame, &mut command);
+    let one = kept
+        .ticketed
+        .ask_tick(readings, &mut area, &mut frame, &mut command);
     asked(kept, one, frame, command)
 }
 
@@ -94,8 +93,9 @@ fn ask_give_up(kept: Kept) -> AskEffect
     let mut area = [0u8; RECORD];
     let mut frame = [0u8; LONGEST_FRAME];
     let mut command = [0u8; LONGEST_COMMAND];
-    let ticketed = kept.ticketed;
-    let one = ticketed.ask_give_up(&mut area, &mut frame, &mut command);
+    let one = kept
+        .ticketed
+        .ask_give_up(&mut area, &mut frame, &mut command);
     asked(kept, one, frame, command)
 }
 
@@ -105,8 +105,9 @@ fn ask_arrive(kept: Kept, bytes: &[u8]) -> AskEffect
     let mut area = [0u8; RECORD];
     let mut frame = [0u8; LONGEST_FRAME];
     let mut command = [0u8; LONGEST_COMMAND];
-    let ticketed = kept.ticketed;
-    let one = ticketed.ask_arrive(bytes, &mut area, &mut frame, &mut command);
+    let one = kept
+        .ticketed
+        .ask_arrive(bytes, &mut area, &mut frame, &mut command);
     asked(kept, one, frame, command)
 }
 
@@ -114,12 +115,11 @@ fn ask_arrive(kept: Kept, bytes: &[u8]) -> AskEffect
 fn not_asked(kept: Kept) -> AskEffect
     ensures { Asks (Asking·not_asked kept) result }
 {
-    let shown = kept.ticketed.replica;
     AskEffect {
         answer: Answer::Ignored,
         ticket: 0,
         kept,
-        shown,
+        shown: kept.ticketed.replica,
     }
 }
 
@@ -135,19 +135,17 @@ pub(crate) fn ask(kept: Kept, event: Event, readings: [Reading; 4], bytes: &[u8]
     }
 }
 
-// A box commits a ticket: on ok what the ask gave leaves.
+// A box commits a ticket: on ok what the ask gave leaves, else nothing changes.
 pub(crate) fn commit(kept: Kept, ticket: u64) -> Effect
     ensures { Gives (committing kept ticket) result }
 {
-    let before = kept.ticketed;
-    let one = before.commit(ticket);
-    let answer = one.answer;
-    let next = one.ticketed;
-    let gave = kept.latest.gave;
-    Effect {
-        answer,
-        gave: only_where(is_done(answer), gave),
-        kept: with_ticketed(kept, next),
+    match kept.ticketed.commit(ticket) {
+        Ok(ticketed) => Effect {
+            answer: Answer::Done,
+            gave: kept.latest.gave,
+            kept: with_ticketed(kept, ticketed),
+        },
+        Err(refusal) => quiet(Answer::Refused(refusal), kept),
     }
 }
 
@@ -155,6 +153,8 @@ pub(crate) fn commit(kept: Kept, ticket: u64) -> Effect
 pub(crate) fn store_asked(kept: Kept) -> Effect
     ensures { Gives (storing_asked kept) result }
 {
-    let ticketed = kept.ticketed;
-    quiet(Answer::Done, with_record(kept, asked_replica(ticketed)))
+    quiet(
+        Answer::Done,
+        with_record(kept, asked_replica(kept.ticketed)),
+    )
 }

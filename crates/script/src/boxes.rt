@@ -1,19 +1,18 @@
 // What is kept of a box, and what an event that is not asked gives at it.
 ghost use Rattle.std.specs.Prelude.{◌≡◌};
-ghost use Rattle.lists.specs.Choice.{pick};
 ghost use Rattle.scram.specs.Answers.{answered};
 ghost use Rattle.script.specs.Boxes.{nothing as Boxes·nothing, no_ask, unstored, with_ticketed, with_record, Gives, quietly, stepping, step_giving, ticked, given_up, arrived};
 ghost use Rattle.script.specs.Play.{storing, returned_as, returning, fresh_box, fresh_boxes};
 
 use asks::{Ticketed, with_tickets};
 use frame::lengths::{LONGEST_COMMAND, LONGEST_FRAME};
-use records::reading::is_done;
 use records::returning::stay_up;
 use replica::{Replica, Settings};
 use scram::Answer;
 use transmitters::Reading;
 
-// A frame and a command, in areas as long as the longest, and their lengths, 0 where there is none.
+// A frame and a command, in areas as long as the longest, and their lengths, 0 where there is none. Arrays with a length beside them, since nothing here
+// has a heap.
 #[derive(Clone, Copy)]
 pub(crate) struct Outgoing {
     pub(crate) frame: [u8; LONGEST_FRAME],
@@ -23,6 +22,7 @@ pub(crate) struct Outgoing {
 }
 
 // The latest ask of a box since it was made or returned: whether its answer was ok, and what it gave.
+// It is no option: what an ask gave is printed also where its answer was not ok (`ask_printed` of specs/Play).
 #[derive(Clone, Copy)]
 pub(crate) struct Latest {
     pub(crate) ok: bool,
@@ -30,6 +30,7 @@ pub(crate) struct Latest {
 }
 
 // What is kept of a box: its replica with tickets, whether a record was stored, the replica whose record was stored last, and the latest ask.
+// `recorded` is no option: `effect_of` says what a return gives at a box without a record too, from the replica that it was made with.
 #[derive(Clone, Copy)]
 pub(crate) struct Kept {
     pub(crate) ticketed: Ticketed,
@@ -38,7 +39,8 @@ pub(crate) struct Kept {
     pub(crate) latest: Latest,
 }
 
-// What an event gives: its answer, the frame and the command that leave, and what is kept of the box then.
+// What an event gives: its answer, the frame and the command that leave, and what is kept of the box then. No Result: what is kept comes back whatever the
+// answer is.
 #[derive(Clone, Copy)]
 pub(crate) struct Effect {
     pub(crate) answer: Answer,
@@ -58,44 +60,32 @@ pub(crate) fn nothing() -> Outgoing
     }
 }
 
-// What an ask gave, where it leaves: nothing does where its commit is refused.
-pub(crate) fn only_where(ok: bool, gave: Outgoing) -> Outgoing
-    ensures { result ≡ pick ok gave Boxes·nothing }
-{
-    if ok {
-        return gave;
-    }
-    nothing()
-}
-
 // No ask since a box was made or returned.
 fn no_ask() -> Latest
     ensures { result ≡ no_ask }
 {
-    let gave = nothing();
-    Latest { ok: false, gave }
+    Latest {
+        ok: false,
+        gave: nothing(),
+    }
 }
 
 // An event that leaves this of its box, and sends and issues nothing.
 pub(crate) fn quiet(answer: Answer, kept: Kept) -> Effect
     ensures { Gives (quietly (answered answer) kept) result }
 {
-    let gave = nothing();
-    Effect { answer, gave, kept }
+    Effect {
+        answer,
+        gave: nothing(),
+        kept,
+    }
 }
 
 // Another replica with its tickets.
 pub(crate) fn with_ticketed(kept: Kept, ticketed: Ticketed) -> Kept
     ensures { result ≡ with_ticketed kept ticketed }
 {
-    let recorded = kept.recorded;
-    let latest = kept.latest;
-    Kept {
-        ticketed,
-        stored: kept.stored,
-        recorded,
-        latest,
-    }
+    Kept { ticketed, ..kept }
 }
 
 // A step that was not asked gave this, with these areas.
@@ -107,8 +97,6 @@ fn stepped(
 ) -> Effect
     ensures { result ≡ step_giving kept one frame command }
 {
-    let answer = one.answer;
-    let next = one.ticketed;
     let gave = Outgoing {
         frame,
         sent: one.frame,
@@ -116,19 +104,20 @@ fn stepped(
         issued: one.command,
     };
     Effect {
-        answer,
+        answer: one.answer,
         gave,
-        kept: with_ticketed(kept, next),
+        kept: with_ticketed(kept, one.ticketed),
     }
 }
 
+// Three bodies with one call apart: the areas that a step writes are its own, and a closure over the step would have to be handed them and say what it does
+// to each.
 pub(crate) fn tick(kept: Kept, readings: [Reading; 4]) -> Effect
     ensures { Gives (stepping kept (ticked kept readings)) result }
 {
     let mut frame = [0u8; LONGEST_FRAME];
     let mut command = [0u8; LONGEST_COMMAND];
-    let ticketed = kept.ticketed;
-    let one = ticketed.tick(readings, &mut frame, &mut command);
+    let one = kept.ticketed.tick(readings, &mut frame, &mut command);
     stepped(kept, one, frame, command)
 }
 
@@ -137,8 +126,7 @@ pub(crate) fn give_up(kept: Kept) -> Effect
 {
     let mut frame = [0u8; LONGEST_FRAME];
     let mut command = [0u8; LONGEST_COMMAND];
-    let ticketed = kept.ticketed;
-    let one = ticketed.give_up(&mut frame, &mut command);
+    let one = kept.ticketed.give_up(&mut frame, &mut command);
     stepped(kept, one, frame, command)
 }
 
@@ -147,8 +135,7 @@ pub(crate) fn arrive(kept: Kept, bytes: &[u8]) -> Effect
 {
     let mut frame = [0u8; LONGEST_FRAME];
     let mut command = [0u8; LONGEST_COMMAND];
-    let ticketed = kept.ticketed;
-    let one = ticketed.arrive(bytes, &mut frame, &mut command);
+    let one = kept.ticketed.arrive(bytes, &mut frame, &mut command);
     stepped(kept, one, frame, command)
 }
 
@@ -156,13 +143,10 @@ pub(crate) fn arrive(kept: Kept, bytes: &[u8]) -> Effect
 pub(crate) fn with_record(kept: Kept, recorded: Replica) -> Kept
     ensures { result ≡ with_record kept recorded }
 {
-    let ticketed = kept.ticketed;
-    let latest = kept.latest;
     Kept {
-        ticketed,
         stored: true,
         recorded,
-        latest,
+        ..kept
     }
 }
 
@@ -170,58 +154,46 @@ pub(crate) fn with_record(kept: Kept, recorded: Replica) -> Kept
 pub(crate) fn store(kept: Kept) -> Effect
     ensures { Gives (storing kept) result }
 {
-    let replica = kept.ticketed.replica;
-    quiet(Answer::Done, with_record(kept, replica))
+    quiet(Answer::Done, with_record(kept, kept.ticketed.replica))
 }
 
-// What is kept of a box that came back as this replica; where returning was refused, it stays as it was.
-fn returned(kept: Kept, ok: bool, replica: Replica) -> Kept
-    ensures { result ≡ pick ok (returned_as kept replica) kept }
+// What is kept of a box that came back as this replica.
+fn returned(kept: Kept, replica: Replica) -> Kept
+    ensures { result ≡ returned_as kept replica }
 {
-    if !ok {
-        return kept;
-    }
-    let recorded = kept.recorded;
-    let ticketed = with_tickets(replica);
-    let latest = no_ask();
     Kept {
-        ticketed,
-        stored: kept.stored,
-        recorded,
-        latest,
+        ticketed: with_tickets(replica),
+        latest: no_ask(),
+        ..kept
     }
 }
 
-// A box comes back from the record that it stored last.
+// A box comes back from the record that it stored last; where returning is refused, it stays as it was.
 pub(crate) fn come_back(kept: Kept, missed: u32) -> Effect
     ensures { Gives (returning kept missed) result }
 {
     let last = kept.recorded;
-    let back = stay_up(last, missed);
-    let answer = back.answer;
-    let replica = back.replica;
-    quiet(answer, returned(kept, is_done(answer), replica))
+    match stay_up(last, missed) {
+        Ok(replica) => quiet(Answer::Done, returned(kept, replica)),
+        Err(refusal) => quiet(Answer::Refused(refusal), kept),
+    }
 }
 
 // A box with a fresh replica of this own number, and no record stored.
 fn made(settings: Settings, own: u8) -> Kept
     ensures { result ≡ unstored (fresh_box settings own) }
 {
-    let mut s = settings;
-    s.own = own;
-    let made = Replica::make(s);
-    let replica = made.replica;
-    let ticketed = with_tickets(replica);
-    let latest = no_ask();
+    let replica = Replica::make(Settings { own, ..settings }).unwrap_or(replica::blank());
     Kept {
-        ticketed,
+        ticketed: with_tickets(replica),
         stored: false,
         recorded: replica,
-        latest,
+        latest: no_ask(),
     }
 }
 
 // Boxes with fresh replicas, box b at place b; one that refuses every event where there is no such box.
+// Written out: its list is then the definition's by itself.
 pub(crate) fn fresh(settings: Settings) -> [Kept; 10]
     ensures { result ≡ fresh_boxes settings }
 {

@@ -2,18 +2,17 @@
 ghost use Rattle.std.specs.Prelude.{◌≡◌, ◌+◌, ◌-◌, ◌*◌, ◌≤◌, length, take, drop};
 ghost use Rattle.text.specs.Lines.{first_line, lines_of};
 ghost use Rattle.script.specs.Play.{most, table_length, line_room};
-ghost use Rattle.script.specs.Script.{left, played, left_by, group_output, opened_output, bench_output, rig_output, output_room, Prints};
+ghost use Rattle.script.specs.Script.{left, played, left_by, group_output, bench_output, rig_output, output_room, Prints};
 
 use crate::boxes::{Kept, fresh};
 use crate::play::{LENGTHS, MOST, TABLE, place_of, play};
 use crate::printing::{put_bad, put_header, refusal_line};
-use line::events::{call_in, readings_of};
-use opening::{Opening, open};
-use replica::{Replica, Settings};
-use scram::Answer;
+use line::events::call_in;
+use opening::{Unopened, open};
+use replica::Settings;
+use replica::refusals::check_settings;
 use setup::bench_settings;
 use text::lines::line_end;
-use text::printing::at_most;
 
 // No script prints more: the header line, and 500 lines of at most 256 bytes.
 pub const OUTPUT: usize = 128040;
@@ -38,31 +37,25 @@ fn play_lines(
     let mut held = kept;
     let mut end = start;
     let mut at = 0;
-    let mut number = 0;
-    while number < MOST {
+    for number in 0..MOST {
         if text.len() <= at {
             return end;
         }
         let stop = line_end(text, at);
-        number += 1;
         let called = call_in(of_rig, boxes, m, &text[at..stop]);
-        let event = called.event;
-        let row = called.readings;
-        let readings = readings_of(row);
-        let place = place_of(event);
+        let place = place_of(called.event);
         let one = play(
             held[place],
             called.asks,
-            event,
-            readings,
-            number,
+            called.event,
+            called.readings,
+            number + 1,
             table,
             lengths,
             output,
             end,
         );
-        let next = one.kept;
-        held[place] = next;
+        held[place] = one.kept;
         end = one.end;
         at = stop + 1;
     }
@@ -77,7 +70,7 @@ fn play_script(of_rig: bool, settings: Settings, text: &[u8], output: &mut [u8])
     let mut table = [0u8; TABLE];
     let mut lengths = [0usize; LENGTHS];
     let kept = fresh(settings);
-    let m = at_most(settings.law.m, 4);
+    let m = settings.law.m.min(4);
     let start = put_header(output, 0);
     play_lines(
         of_rig,
@@ -104,23 +97,9 @@ fn group(settings: Settings, text: &[u8], output: &mut [u8]) -> usize
     requires { length output.old ≡ output_room }
     ensures { Prints (group_output settings text.now) result output.old output.new }
 {
-    let made = Replica::make(settings);
-    let answer = made.answer;
-    match answer {
-        Answer::Done => play_script(true, settings, text, output),
-        Answer::Ignored => play_script(true, settings, text, output),
-        Answer::Refused(number) => refusal_line(output, 0, number),
-    }
-}
-
-fn opened(opening: Opening, settings: Settings, text: &[u8], output: &mut [u8]) -> usize
-    requires { length output.old ≡ output_room }
-    ensures { Prints (opened_output opening settings text.now) result output.old output.new }
-{
-    match opening {
-        Opening::Bad => put_bad(output, 0),
-        Opening::Refused(number) => refusal_line(output, 0, number),
-        Opening::Ready => group(settings, text, output),
+    match check_settings(&settings) {
+        Ok(()) => play_script(true, settings, text, output),
+        Err(refusal) => refusal_line(output, 0, refusal),
     }
 }
 
@@ -148,8 +127,10 @@ pub fn rig(text: &[u8], output: &mut [u8; OUTPUT]) -> usize
     ensures { Prints (rig_output text.now) result output.old output.new }
 {
     let stop = line_end(text, 0);
-    let first = open(&text[0..stop]);
-    let opening = first.opening;
-    let settings = first.settings;
-    opened(opening, settings, after_line(text, stop), output)
+    let rest = after_line(text, stop);
+    match open(&text[0..stop]) {
+        Ok(settings) => group(settings, rest, output),
+        Err(Unopened::Refused(refusal)) => refusal_line(output, 0, refusal),
+        Err(Unopened::Bad) => put_bad(output, 0),
+    }
 }

@@ -46,6 +46,7 @@ fn step(kept: Kept, event: Event, readings: [Reading; 4], bytes: &[u8]) -> Effec
 }
 
 // The box that an event is for, 0 where there is none.
+#[tactic(auto, unfolding(crate::specs::Play::box_in))]
 fn box_of(event: Event) -> u8
     ensures { result ≡ box_in event }
 {
@@ -62,6 +63,7 @@ fn box_of(event: Event) -> u8
 }
 
 // The line whose frame is delivered, 0 where none is.
+#[tactic(auto, unfolding(crate::specs::Play::line_in))]
 fn line_of(event: Event) -> u32
     ensures { result ≡ line_in event }
 {
@@ -86,19 +88,11 @@ fn is_playable(stored: bool, asked: bool, event: Event, number: u32, lengths: &[
 }
 
 // Whether there is room for the line's frame, and a place for its box.
+#[tactic(auto, unfolding(crate::specs::Play::has_room))]
 fn has_room(event: Event, number: u32, table: usize, lengths: usize) -> bool
     ensures { result ≡ has_room event number table lengths }
 {
-    if MOST < number {
-        return false;
-    }
-    if 9 < box_of(event) {
-        return false;
-    }
-    if table < TABLE {
-        return false;
-    }
-    LENGTHS <= lengths
+    number <= MOST && box_of(event) <= 9 && TABLE <= table && LENGTHS <= lengths
 }
 
 // Whether a line can be played, and has room.
@@ -112,10 +106,8 @@ fn can_play(
 ) -> bool
     ensures { result ≡ (has_room event number table (length lengths.now) && playable stored asked event number lengths.now) }
 {
-    if !has_room(event, number, table, lengths.len()) {
-        return false;
-    }
-    is_playable(stored, asked, event, number, lengths)
+    has_room(event, number, table, lengths.len())
+        && is_playable(stored, asked, event, number, lengths)
 }
 
 // A line that is none of the format, or cannot be played.
@@ -131,16 +123,15 @@ fn arriving<'a>(event: Event, table: &'a [u8], lengths: &[usize]) -> &'a [u8]
     requires { (line_in event ≤ most) × (most + 1 ≤ length lengths.now) }
     ensures { result.now ≡ Play·arriving event table.now lengths.now }
 {
-    let f = line_of(event);
-    frame_of(table, f, lengths[f as usize])
+    let line = line_of(event);
+    frame_of(table, line, lengths[line as usize])
 }
 
 // Puts the frame that line `number` sent into the table.
 fn keep_sent(table: &mut [u8], number: u32, gave: Outgoing)
     ensures { table.new ≡ sent_kept table.old number gave.frame gave.sent }
 {
-    let frame = gave.frame;
-    keep(table, number, &frame, gave.sent);
+    keep(table, number, &gave.frame, gave.sent);
 }
 
 // The event of a line that can be played, at its box.
@@ -160,14 +151,22 @@ fn play_event(
         at result table.new lengths.new text.old text.new }
 {
     let one = step(kept, event, readings, arriving(event, table, lengths));
-    let gave = one.gave;
-    keep_sent(table, number, gave);
-    lengths[number as usize] = gave.sent;
-    let answer = one.answer;
-    let next = one.kept;
-    let replica = next.ticketed.replica;
-    let end = step_line(text, at, number, box_of(event), answer, gave, replica);
-    PlayedLine { kept: next, end }
+    keep_sent(table, number, one.gave);
+    lengths[number as usize] = one.gave.sent;
+    let replica = one.kept.ticketed.replica;
+    let end = step_line(
+        text,
+        at,
+        number,
+        box_of(event),
+        one.answer,
+        one.gave,
+        replica,
+    );
+    PlayedLine {
+        kept: one.kept,
+        end,
+    }
 }
 
 // The event of a line that asks it, at its box. Nothing is sent.
@@ -183,21 +182,20 @@ fn ask_event(
     ensures { AskLeaves event number (ask_of kept event readings bytes.now) at result text.old text.new }
 {
     let one = ask(kept, event, readings, bytes);
-    let answer = one.answer;
-    let next = one.kept;
-    let shown = one.shown;
-    let gave = next.latest.gave;
     let end = ask_line(
         text,
         at,
         number,
         box_of(event),
-        answer,
-        gave,
+        one.answer,
+        one.kept.latest.gave,
         one.ticket,
-        shown,
+        one.shown,
     );
-    PlayedLine { kept: next, end }
+    PlayedLine {
+        kept: one.kept,
+        end,
+    }
 }
 
 // The line of an event played, at its box; `asks` tells whether the event is asked.
@@ -240,6 +238,7 @@ pub(crate) fn play(
 }
 
 // The place of the box that an event is for: box b has place b, and place 0 is no box's.
+#[tactic(auto, unfolding(crate::specs::Play::place_of, lists::specs::Choice::pick))]
 pub(crate) fn place_of(event: Event) -> usize
     ensures place { result ≡ place_of event }
     ensures bound { result ≤ 9 }

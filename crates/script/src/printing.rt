@@ -1,15 +1,17 @@
 // The lines that are printed.
 ghost use Rattle.std.specs.Prelude.{◌∷◌, ◌≤◌, length};
 ghost use Rattle.text.specs.Printing.{Puts, decimal};
+ghost use Rattle.refusal.specs.Numbers.{number};
 ghost use Rattle.script.specs.Play.{line_room, state_room};
 ghost use Rattle.scram.specs.Answers.{answered};
 ghost use Rattle.script.specs.Printing.{header_line, bad_alone, refusal_line, bad_line, answer_word, head_words, counter_words, state_word, first_words, sent_word, star_word, command_word, step_line, asked_word, ask_line};
 
 use crate::boxes::Outgoing;
 use crate::decimals::put_ticket;
+use refusal::Refusal;
 use replica::Replica;
 use scram::Answer;
-use text::printing::{at_most, put_byte, put_decimal, put_list, put_word};
+use text::printing::{put_byte, put_decimal, put_list, put_word};
 
 // The header line.
 pub(crate) fn put_header(text: &mut [u8], at: usize) -> usize
@@ -26,10 +28,10 @@ pub(crate) fn put_bad(text: &mut [u8], at: usize) -> usize
 }
 
 // `r` and the number of a refusal, alone in a line.
-pub(crate) fn refusal_line(text: &mut [u8], at: usize, number: u8) -> usize
-    ensures { Puts text.old at (refusal_line number) result text.new }
+pub(crate) fn refusal_line(text: &mut [u8], at: usize, refusal: Refusal) -> usize
+    ensures { Puts text.old at (refusal_line (number refusal)) result text.new }
 {
-    let at = put_refusal(text, at, number);
+    let at = put_refusal(text, at, refusal);
     put_word(text, at, b"\n")
 }
 
@@ -42,11 +44,11 @@ pub(crate) fn bad_line(text: &mut [u8], at: usize, number: u32) -> usize
 }
 
 // `r` and the number of a refusal.
-fn put_refusal(text: &mut [u8], at: usize, number: u8) -> usize
-    ensures { Puts text.old at (114 ∷ decimal number) result text.new }
+fn put_refusal(text: &mut [u8], at: usize, refusal: Refusal) -> usize
+    ensures { Puts text.old at (114 ∷ decimal (number refusal)) result text.new }
 {
-    let at = put_byte(text, at, 114);
-    put_decimal(text, at, number as u32)
+    let at = put_byte(text, at, b'r');
+    put_decimal(text, at, u32::from(u8::from(refusal)))
 }
 
 fn put_answer(text: &mut [u8], at: usize, answer: Answer) -> usize
@@ -55,7 +57,7 @@ fn put_answer(text: &mut [u8], at: usize, answer: Answer) -> usize
     match answer {
         Answer::Done => put_word(text, at, b"ok"),
         Answer::Ignored => put_word(text, at, b"ignored"),
-        Answer::Refused(number) => put_refusal(text, at, number),
+        Answer::Refused(refusal) => put_refusal(text, at, refusal),
     }
 }
 
@@ -63,7 +65,7 @@ fn put_answer(text: &mut [u8], at: usize, answer: Answer) -> usize
 fn put_counter(text: &mut [u8], at: usize, n: u32) -> usize
     ensures { Puts text.old at (32 ∷ decimal n) result text.new }
 {
-    let at = put_byte(text, at, 32);
+    let at = put_byte(text, at, b' ');
     put_decimal(text, at, n)
 }
 
@@ -72,8 +74,8 @@ fn put_head(text: &mut [u8], at: usize, number: u32, who: u8, answer: Answer) ->
     ensures { Puts text.old at (head_words number who (answered answer)) result text.new }
 {
     let at = put_decimal(text, at, number);
-    let at = put_counter(text, at, who as u32);
-    let at = put_byte(text, at, 32);
+    let at = put_counter(text, at, u32::from(who));
+    let at = put_byte(text, at, b' ');
     put_answer(text, at, answer)
 }
 
@@ -90,11 +92,9 @@ fn put_counters(text: &mut [u8], at: usize, replica: Replica) -> usize
 fn put_state(text: &mut [u8], at: usize, replica: Replica) -> usize
     ensures { Puts text.old at (state_word replica) result text.new × (length (state_word replica) ≤ state_room) }
 {
-    let estimate = replica.held.estimate;
-    let state = estimate.state;
-    let n = at_most(replica.settings.law.n, 6);
-    let at = put_byte(text, at, 32);
-    put_list(text, at, &state[0..n])
+    let n = replica.settings.law.n.min(6);
+    let at = put_byte(text, at, b' ');
+    put_list(text, at, &replica.held.estimate.state[..n])
 }
 
 // The fields up to the state.
@@ -117,9 +117,9 @@ fn put_first(
 fn put_sent(text: &mut [u8], at: usize, number: u32, size: usize) -> usize
     ensures { Puts text.old at (sent_word number size) result text.new }
 {
-    let at = put_byte(text, at, 32);
+    let at = put_byte(text, at, b' ');
     if size == 0 {
-        return put_byte(text, at, 45);
+        return put_byte(text, at, b'-');
     }
     put_decimal(text, at, number)
 }
@@ -137,13 +137,12 @@ fn put_star(text: &mut [u8], at: usize, command: &[u8]) -> usize
 fn put_command(text: &mut [u8], at: usize, p: usize, size: usize, command: &[u8]) -> usize
     ensures { Puts text.old at (command_word p size command.now) result text.new }
 {
-    let at = put_byte(text, at, 32);
+    let at = put_byte(text, at, b' ');
     if size == 0 {
-        return put_byte(text, at, 45);
+        return put_byte(text, at, b'-');
     }
     let values = frame::command_values(command);
-    let n = at_most(p, 4);
-    let at = put_list(text, at, &values[0..n]);
+    let at = put_list(text, at, &values[..p.min(4)]);
     put_star(text, at, command)
 }
 
@@ -163,20 +162,19 @@ pub(crate) fn step_line(
     let at = put_first(text, at, number, who, answer, replica);
     let at = put_sent(text, at, number, gave.sent);
     let p = replica.settings.law.p;
-    let command = gave.command;
-    let at = put_command(text, at, p, gave.issued, &command);
-    put_byte(text, at, 10)
+    let at = put_command(text, at, p, gave.issued, &gave.command);
+    put_byte(text, at, b'\n')
 }
 
 // A question mark where an ask would send a frame.
 fn put_asked(text: &mut [u8], at: usize, size: usize) -> usize
     ensures { Puts text.old at (asked_word size) result text.new }
 {
-    let at = put_byte(text, at, 32);
+    let at = put_byte(text, at, b' ');
     if size == 0 {
-        return put_byte(text, at, 45);
+        return put_byte(text, at, b'-');
     }
-    put_byte(text, at, 63)
+    put_byte(text, at, b'?')
 }
 
 // The line of an ask at a box: its answer, what it gave, its ticket, and the replica that is shown.
@@ -196,8 +194,7 @@ pub(crate) fn ask_line(
     let at = put_first(text, at, number, who, answer, shown);
     let at = put_asked(text, at, gave.sent);
     let p = shown.settings.law.p;
-    let command = gave.command;
-    let at = put_command(text, at, p, gave.issued, &command);
+    let at = put_command(text, at, p, gave.issued, &gave.command);
     let at = put_ticket(text, at, ticket);
-    put_byte(text, at, 10)
+    put_byte(text, at, b'\n')
 }

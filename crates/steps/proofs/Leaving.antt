@@ -1,14 +1,21 @@
 -- What is laid out is what the replica's contracts say. Assumes nothing.
 use Prim.Native.Nat.{ℕ}
-use mathlib.Core.Path.{◌≡◌, ap, subst, ◌∙◌}
+use mathlib.Core.Path.{◌≡◌, sym, ap, subst, ◌∙◌}
+use Rattle.std.specs.Prelude.{Result, Ok, Err, IfOk}
+use Rattle.std.specs.Result.{result_unwrap_or}
+use Rattle.lists.proofs.Booleans.{never}
+use Rattle.refusal.specs.declared.Refusal.{Refusal}
 use mathlib.Core.List.{List, [], ◌∷◌}
 use Rattle.transmitters.specs.declared.Reading.{Reading}
 use Rattle.transmitters.specs.Conversion.{converted_row}
-use Rattle.scram.specs.Answers.{Answered}
+use Rattle.scram.specs.Answers.{Answered, answered_of}
 use Rattle.replica.specs.declared.Settings.{Settings}
 use Rattle.replica.specs.declared.Replica.{Replica}
 use Rattle.replica.specs.declared.Stepped.{Stepped}
-use Rattle.replica.specs.Calls.{Outcomes, tick_outcome, Gives, made_answer, made}
+use Rattle.replica.specs.Calls.{Outcomes, tick_outcome, Gives, made_answer, made, fresh_of}
+use Rattle.replica.specs.Settings.{blank_settings}
+use Rattle.replica.proofs.Calls.{made-done, made-refused}
+use Rattle.records.specs.Reading.{is_done}
 use Rattle.steps.specs.Areas.{Areas, areas_of}
 use Rattle.winder.specs.Answers.{number_of}
 use Rattle.steps.specs.Calls.{Makes, Laid, Leaves}
@@ -48,3 +55,9 @@ makes {number = number} {held = held} same answer replica laid put =
     (λ (s : Settings). Makes s number held)
     same
     (record { answer = laid ∙ ap number_of answer; replica = put ∙ ap (λ (x : Replica). areas_of x.held) replica })
+
+-- the replica laid out where making is refused is the one that its definition gives
+pub made-or-blank : (s : Settings) (m : Result Replica Refusal) → answered_of m ≡ made_answer s → IfOk m (λ (r : Replica). r ≡ made s)
+    → result_unwrap_or m (fresh_of blank_settings) ≡ made s
+made-or-blank s (Ok r) a e = e
+made-or-blank s (Err refusal) a e = sym (made-refused s (λ z. never (ap is_done (a ∙ (made-done s z).0)))).1

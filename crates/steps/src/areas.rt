@@ -54,7 +54,7 @@ pub(crate) fn settings_of(
     }
 }
 
-// A box is heard where its mark is not 0.
+// A box is heard where its mark is not 0. Place by place, here and below: with `map` the search does not close `returns`.
 fn heard_of(heard: &[u8; 10]) -> [bool; 10]
     ensures { result ≡ heard_of heard.now }
 {

@@ -9,7 +9,7 @@ ghost use Rattle.steps.specs.Calls.{replica_of, Makes, Leaves};
 use crate::areas::{held_of, put_held, put_step, settings_of};
 use replica::Replica;
 use transmitters::numbers::readings_of;
-use winder::answers::replica_number;
+use winder::answers::refusal_number;
 
 // A fresh replica.
 #[unsafe(no_mangle)]
@@ -41,8 +41,8 @@ pub extern "C" fn steps_make(
         best_state.new best_present.new best_values.new) }
 {
     let made = Replica::make(settings_of(group, sizes, a, l, c, k, low, high, start));
-    let replica = made.replica;
-    let held = replica.held;
+    let fresh = made.unwrap_or(replica::blank());
+    let held = fresh.held;
     put_held(
         held,
         counters,
@@ -55,8 +55,10 @@ pub extern "C" fn steps_make(
         best_present,
         best_values,
     );
-    let answer = made.answer;
-    replica_number(answer)
+    match made {
+        Ok(_) => 0,
+        Err(refusal) => refusal_number(refusal),
+    }
 }
 
 // A tick with readings, each by its kind and its bits.

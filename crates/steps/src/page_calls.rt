@@ -6,17 +6,17 @@ ghost use Rattle.steps.specs.Pages.{words_of, ReadsPage};
 use octets::word::bits;
 use pages::entries::{Entry, blank};
 use pages::lines::{MOST, Page};
-use winder::areas::mark_byte;
+use winder::answers::refusal_number;
 
 // The words of an entry.
 fn words_of(entry: Entry) -> [u32; 7]
     ensures { result ≡ words_of entry }
 {
-    let command = entry.command;
+    let command = entry.command.unwrap_or([0; 4]);
     [
         entry.period,
         entry.view,
-        mark_byte(entry.decided) as u32,
+        u32::from(entry.command.is_some()),
         bits(command[0]),
         bits(command[1]),
         bits(command[2]),
@@ -28,11 +28,11 @@ fn words_of(entry: Entry) -> [u32; 7]
 fn line_of(page: Page, line: usize) -> Entry
     ensures { result ≡ get_or page.lines line Entries·blank }
 {
-    let lines = page.lines;
     if line < MOST {
-        return lines[line];
+        page.lines[line]
+    } else {
+        blank()
     }
-    blank()
 }
 
 // Reads a page of p commands: the number of its lines, and the words of one of them.
@@ -46,14 +46,12 @@ pub extern "C" fn steps_read_page(
 ) -> u32
     ensures { ReadsPage p bytes.now line result count.old count.new words.old words.new }
 {
-    let read = pages::reading::read(p, bytes);
-    let answer = read.answer;
-    let number = pages::number_of(answer) as u32;
-    if number != 0 {
-        return number;
+    match pages::reading::read(p, bytes) {
+        Ok(page) => {
+            *count = page.count;
+            *words = words_of(line_of(page, line));
+            0
+        }
+        Err(refusal) => refusal_number(refusal),
     }
-    let page = read.page;
-    *count = page.count;
-    *words = words_of(line_of(page, line));
-    0
 }

@@ -1,50 +1,60 @@
 -- Laws of parts of a text, one byte and one line after the other. Assumes nothing.
-use mathlib.Core.Path.{◌≡◌, refl, sym}
-use mathlib.Core.List.{List, [], ◌∷◌, ◌++◌, append_assoc}
-use Prim.Native.Nat.{ℕ, zero, suc, ◌+◌, ◌-◌, ◌≤◌, ◌<◌}
-use native.Mathlib.Omega.{arith}
-use native.Mathlib.Numerals.{add-one}
-use lib.ListN.{length, drop, take, get_or, length-drop}
-use lib.Seq.{drop-cons, take-suc, get_or-drop}
-use borrow.Author.Tests.{eq-eqb, ne_eqb}
+use Rattle.std.proofs.Common.{◌≡◌, refl, sym, ap, ◌∙◌, Bool, true, false, not, cond, List, [], ◌∷◌, ℕ, zero, suc, ◌+◌, ◌-◌, ◌≤◌, ◌<◌, arith, length, drop, take, length-drop, eqb, ltb, Some, None}
+use Rattle.std.specs.List.{position, position_or_len}
+use Rattle.std.specs.Option.{unwrap_or}
+use Rattle.std.proofs.lemmas.List.Sums.{prefix_len-le-length}
+use lib.Seq.{drop-cons, drop-drop}
+use borrow.Author.Tests.{ltb-false}
 use Rattle.lists.specs.Choice.{pick}
-use Rattle.lists.proofs.Parts.{drop-beyond}
+use Rattle.lists.proofs.Parts.{drop-beyond, to_the_end}
 use Rattle.text.specs.Lines.{up_to, after, first_line, after_line, lines_of}
 
 -- ---- where a part ends
 
--- a byte of it
-pub part-more : (stop : ℕ) (text : List ℕ) (from i : ℕ) → from ≤ i → i < length text → (get_or text i 0 ≡ stop → ⊥)
-    → take (i - from) (drop from text) ++ up_to stop (drop i text) ≡ take (i + 1 - from) (drop from text) ++ up_to stop (drop (i + 1) text)
+abbrev before : ℕ → List ℕ → ℕ
+before stop text = position_or_len (λ b. eqb b stop) text
+
+first_or_len : (stop : ℕ) (text : List ℕ) → unwrap_or (position (λ b. eqb b stop) text) (length text) ≡ before stop text
+first_or_len stop text = by (ltb (before stop text) (length text)) refl
+  where
+    by : (t : Bool) → ltb (before stop text) (length text) ≡ t → unwrap_or (cond t (Some (before stop text)) None) (length text) ≡ before stop text
+    by true e = refl
+    by false e = omega (arith, ltb-false _ _ e, prefix_len-le-length (λ b. not (eqb b stop)) text)
+
+up_to-taken : (stop : ℕ) (text : List ℕ) → take (before stop text) text ≡ up_to stop text
 unfolding up_to pick
-part-more stop text from i f h n =
-    let d : i + 1 - from ≡ suc (i - from) = omega arith in
-    let l : i - from < length (drop from text) = rw length-drop (omega arith) in
-    let at : from + (i - from) ≡ i = omega arith in
-    rw (d, take-suc (drop from text) (i - from) 0 l, get_or-drop, at, drop-cons text i 0 h, ne_eqb _ _ n, add-one)
-    (sym (append_assoc (take (i - from) (drop from text)) _ _))
+up_to-taken stop [] = refl
+up_to-taken stop (b ∷ bs) = by (eqb b stop) (up_to-taken stop bs)
+  where
+    by : (t : Bool) → take (before stop bs) bs ≡ up_to stop bs
+        → take (cond (not t) (1 + before stop bs) 0) (b ∷ bs) ≡ pick t [] (b ∷ up_to stop bs)
+    by true e = refl
+    by false e = let s : 1 + before stop bs ≡ suc (before stop bs) = omega arith in rw s (ap (λ (l : List ℕ). b ∷ l) e)
 
-pub part-end-more : (stop : ℕ) (text : List ℕ) (i : ℕ) → i < length text → (get_or text i 0 ≡ stop → ⊥) → after stop (drop i text) ≡ after stop (drop (i + 1) text)
+after-dropped : (stop : ℕ) (text : List ℕ) → drop (before stop text + 1) text ≡ after stop text
 unfolding after pick
-part-end-more stop text i h n = rw (add-one, drop-cons text i 0 h, ne_eqb _ _ n)
+after-dropped stop [] = refl
+after-dropped stop (b ∷ bs) = by (eqb b stop) (after-dropped stop bs)
+  where
+    by : (t : Bool) → drop (before stop bs + 1) bs ≡ after stop bs
+        → drop (cond (not t) (1 + before stop bs) 0 + 1) (b ∷ bs) ≡ pick t bs (after stop bs)
+    by true e = refl
+    by false e = let s : 1 + before stop bs + 1 ≡ suc (before stop bs + 1) = omega arith in rw s e
 
--- the byte after it
-pub part-stop : (stop : ℕ) (text : List ℕ) (i : ℕ) → i < length text → get_or text i 0 ≡ stop → up_to stop (drop i text) ≡ []
-unfolding up_to pick
-part-stop stop text i h e = rw (drop-cons text i 0 h, eq-eqb _ _ e)
-
-pub part-end-stop : (stop : ℕ) (text : List ℕ) (i : ℕ) → i < length text → get_or text i 0 ≡ stop → drop (i + 1) text ≡ after stop (drop i text)
-unfolding after pick
-part-end-stop stop text i h e = rw (add-one, drop-cons text i 0 h, eq-eqb _ _ e)
-
--- the text's end
-pub part_none : (stop : ℕ) (text : List ℕ) (i : ℕ) → length text ≤ i → up_to stop (drop i text) ≡ []
-unfolding up_to
-part_none stop text i h = rw (drop-beyond text i h)
-
-pub part-end-none : (stop : ℕ) (text : List ℕ) (i : ℕ) → length text ≤ i → drop (i + 1) text ≡ after stop (drop i text)
-unfolding after
-part-end-none stop text i h = rw (drop-beyond text i h) (drop-beyond text (i + 1) (omega arith))
+-- the part of a text that starts at `from`, of so many bytes before `stop`
+pub part_ends : (stop : ℕ) (text : List ℕ) (from k : ℕ) → from ≤ length text
+    → k ≡ unwrap_or (position (λ b. eqb b stop) (take (length text - from) (drop from text))) (length (take (length text - from) (drop from text)))
+    → (from ≤ from + k) × (from + k ≤ length text) × (take (from + k - from) (drop from text) ≡ up_to stop (drop from text))
+    × (drop (from + k + 1) text ≡ after stop (drop from text))
+part_ends stop text from k h e =
+    let rest : k ≡ before stop (drop from text) = e ∙ first_or_len stop (take (length text - from) (drop from text)) ∙ ap (before stop) (to_the_end text from) in
+    let n : from + k - from ≡ k = omega arith in
+    let m : from + k + 1 ≡ from + (k + 1) = omega arith in (
+      omega arith,
+      omega (arith, rest, prefix_len-le-length (λ b. not (eqb b stop)) (drop from text), length-drop from text),
+      rw (n, rest) (up_to-taken stop (drop from text)),
+      rw m (sym (drop-drop (k + 1) from text) ∙ rw rest (after-dropped stop (drop from text))),
+    )
 
 -- ---- the lines
 

@@ -1,100 +1,124 @@
 -- Laws of numbers in lines: digits one by one, and the two ends of i32. Assumes nothing.
-use mathlib.Core.Path.{◌≡◌, refl, ap, ◌∙◌}
-use mathlib.Core.Bool.{true, false}
-use mathlib.Core.List.{List}
-use Prim.Native.Nat.{ℕ, zero, suc, ◌+◌, ◌*◌, ◌-◌, ◌≤◌, ◌<◌}
-use native.Mathlib.Omega.{arith}
-use native.Mathlib.Numerals.{add-one}
-use lib.IntN.{ℤ, pos, negsuc, nat_abs, ◌-ℤ◌}
-use lib.Signed.{lt_z, non_neg}
-use lib.Dec.{T, leb, ltb, eqb}
-use lib.ListN.{length, drop, get_or}
+use Rattle.std.proofs.Common.{◌≡◌, refl, sym, ap, ◌∙◌, Bool, true, false, List, ℕ, zero, suc, ◌+◌, ◌*◌, ◌-◌, ◌≤◌, ◌<◌, arith, add-one, ℤ, pos, negsuc, leb, ltb, length, drop, get_or, Option, Some, None, Result, Ok, Err, IfSome, FitsSigned, w32, nat_abs, ◌-ℤ◌, [], ◌∷◌}
+use native.Mathlib.Decide.{dec_le}
 use lib.Seq.{drop-cons, drop-length}
-use borrow.Author.Tests.{le-leb, lt-leb, leb-true, ltb-true}
-use mir.Syntax.{w32}
-use mir.Val.{Fits, SFits, to_z, of_z}
-use mir.ValLaws.{to_z_pos, to_z-of_z}
-use Rattle.lists.proofs.Booleans.{both}
+use borrow.Author.Tests.{le-leb, lt-leb, leb-true, lt-ltb, le-ltb}
+use Rattle.lists.proofs.Booleans.{both, second-fails}
 use Rattle.lists.specs.Choice.{pick}
-use Rattle.octets.proofs.TwosComplement.{minus_pos, natural}
-use Rattle.text.specs.declared.numbers.Number.TheVariants.{Whole, Malformed}
-use Rattle.text.specs.declared.numbers.Magnitude.TheVariants.{Digits, Other}
-use Rattle.text.specs.Numbers.{is_digit, goes_on, spelled, negative, is_minus, counted}
-
--- ---- digits
+use Rattle.lists.proofs.Choice.{pick-holds}
+use Rattle.std.specs.Option.{SomeIff, unwrap_or}
+use Rattle.std.specs.Result.{OkIff, result_ok, result_unwrap_or}
+use Rattle.std.specs.Int.{FitsUnsignedBits}
+use Rattle.std.proofs.lemmas.Int.{ints}
+use Rattle.std.proofs.lemmas.Option.{none-some, same_Some}
+use Rattle.text.specs.Numbers.{is_digit, goes_on, spelled, negative, positive, counted}
 
 -- what a digit that goes on tells
-pub record Goes (n b : ℕ) : Type 0 where
+pub record Goes (largest n b : ℕ) : Type 0 where
   pub low : 48 ≤ b
   pub high : b ≤ 57
-  pub small : 10 * n + (b - 48) ≤ 4294967295
+  pub small : 10 * n + (b - 48) ≤ largest
 
 pub digit-range : (b : ℕ) → is_digit b ≡ true → (48 ≤ b) × (b ≤ 57)
 unfolding is_digit
 digit-range b e = let p = both (leb 48 b) (leb b 57) e in (leb-true 48 b p.0, leb-true b 57 p.1)
 
-pub goes : (n b : ℕ) → goes_on n b ≡ true → Goes n b
+pub goes : (largest n b : ℕ) → goes_on largest n b ≡ true → Goes largest n b
 unfolding goes_on
-goes n b e =
-    let p = both (is_digit b) (leb (10 * n + (b - 48)) 4294967295) e in
+goes largest n b e =
+    let p = both (is_digit b) (leb (10 * n + (b - 48)) largest) e in
     let d = digit-range b p.0 in
     record { low = d.0; high = d.1; small = leb-true _ _ p.1 }
 
--- a turn of the loop that spells
-pub spelled-more : (n : ℕ) (digits : List ℕ) (i : ℕ) → i < length digits → goes_on n (get_or digits i 0) ≡ true
-    → spelled n (drop i digits) ≡ spelled (10 * n + (get_or digits i 0 - 48)) (drop (i + 1) digits)
-unfolding spelled pick
-spelled-more n digits i h e = rw (add-one, drop-cons digits i 0 h, e)
+-- ---- one digit more
 
-pub spelled-stops : (n : ℕ) (digits : List ℕ) (i : ℕ) → i < length digits → goes_on n (get_or digits i 0) ≡ false
-    → spelled n (drop i digits) ≡ Other
-unfolding spelled pick
-spelled-stops n digits i h e = rw (drop-cons digits i 0 h, e)
+module _ (largest n b : ℕ) (next : Option ℕ) where
+  pub no_digit : is_digit b ≡ false → None ≡ pick (goes_on largest n b) next None
+  unfolding goes_on pick
+  no_digit e = rw e
 
-pub spelled-ends : (n : ℕ) (digits : List ℕ) (i : ℕ) → i ≡ length digits → spelled n (drop i digits) ≡ Digits n
-unfolding spelled pick
-spelled-ends n digits i e = rw (e, drop-length)
+  pub too_large : largest < 10 * n + (b - 48) → None ≡ pick (goes_on largest n b) next None
+  unfolding goes_on pick
+  too_large h = rw (second-fails (is_digit b) _ (lt-leb _ _ h))
 
--- ---- after a minus
+  pub one-more : is_digit b ≡ true → 10 * n + (b - 48) ≤ largest → next ≡ pick (goes_on largest n b) next None
+  unfolding goes_on pick
+  one-more e h = rw (e, le-leb _ _ h)
 
-pub below-zero : (n : ℕ) → (n ≡ 0 → ⊥) → n ≤ 2147483648 → negsuc 0 -ℤ to_z w32 (n - 1) ≡ negsuc (n - 1)
-below-zero n z h = let l : n - 1 < 2147483648 = omega (arith, z) in ap (λ (k : ℤ). negsuc 0 -ℤ k) (to_z_pos w32 (n - 1) l) ∙ minus_pos (n - 1)
+-- ---- a turn of the loop that spells
 
-pub below-fits : (n : ℕ) → (n ≡ 0 → ⊥) → n ≤ 2147483648 → SFits w32 (negsuc (n - 1))
-below-fits n z h = record { sfits = omega (arith, z) }
+-- where the digit does not go on, nothing is spelled; where it does, the rest is spelled after it
+pub pick-none : (t : Bool) {A B : Type 0} (x : A) (y : Option B) → pick t (Some x) None ≡ None → pick t y None ≡ None
+unfolding pick
+pick-none true x y e = absurd (none-some x (sym e))
+pick-none false x y e = refl
 
-pub negative-zero : (n : ℕ) → n ≡ 0 → negative (Digits n) ≡ Malformed
+pub pick-some : (t : Bool) {A B : Type 0} (x v : A) (y : A → Option B) → pick t (Some x) None ≡ Some v → pick t (y x) None ≡ y v
+unfolding pick
+pick-some true x v y e = ap y (same_Some x v e)
+pick-some false x v y e = absurd (none-some v e)
+
+module _ (largest n : ℕ) (digits : List ℕ) (i : ℕ) where
+  spelled-next : i < length digits
+      → spelled largest n (drop i digits)
+      ≡ pick (goes_on largest n (get_or digits i 0)) (spelled largest (10 * n + (get_or digits i 0 - 48)) (drop (i + 1) digits)) None
+  unfolding spelled
+  spelled-next h = rw (add-one, drop-cons digits i 0 h)
+
+  pub spelled-stops : i < length digits → pick (goes_on largest n (get_or digits i 0)) (Some (10 * n + (get_or digits i 0 - 48))) None ≡ None
+      → spelled largest n (drop i digits) ≡ None
+  spelled-stops h e = spelled-next h ∙ pick-none (goes_on largest n (get_or digits i 0)) _ _ e
+
+  pub spelled-more : (m : ℕ) → i < length digits → pick (goes_on largest n (get_or digits i 0)) (Some (10 * n + (get_or digits i 0 - 48))) None ≡ Some m
+      → spelled largest n (drop i digits) ≡ spelled largest m (drop (i + 1) digits)
+  spelled-more m h e = spelled-next h ∙ pick-some (goes_on largest n (get_or digits i 0)) _ m (λ (k : ℕ). spelled largest k (drop (i + 1) digits)) e
+
+  pub spelled-ends : i ≡ length digits → spelled largest n (drop i digits) ≡ Some n
+  unfolding spelled
+  spelled-ends e = rw (e, drop-length)
+
+-- what is spelled is no more than the largest number
+pub spelled-within : (largest n : ℕ) (digits : List ℕ) → n ≤ largest → IfSome (spelled largest n digits) (λ v. v ≤ largest)
+unfolding spelled
+spelled-within largest n [] h = h
+spelled-within largest n (b ∷ bs) h =
+    pick-holds (λ (r : Option ℕ). IfSome r (λ v. v ≤ largest)) (goes_on largest n b) _ None
+    (λ e. spelled-within largest (10 * n + (b - 48)) bs (goes largest n b e).small)
+    (λ _. tt)
+
+-- ---- the signs
+
+-- `0i32.checked_sub_unsigned(n)`
+pub negative-from : (n : ℕ) (r : Option ℤ) → 0 < n → SomeIff r (FitsSigned w32 (pos 0 -ℤ pos n)) (pos 0 -ℤ pos n) → r ≡ negative (Some n)
 unfolding negative pick
-negative-zero n e = rw e
+negative-from zero r h e = absurd (omega arith)
+negative-from (suc k) r h e = let z : pos 0 -ℤ pos (suc k) ≡ negsuc k = omega (arith, ints) in below r (rw z at e)
+  where
+    below : (r : Option ℤ) → SomeIff r (FitsSigned w32 (negsuc k)) (negsuc k) → r ≡ pick (leb (suc k) 2147483648) (Some (negsuc k)) None
+    below None e = by (dec_le (suc k) 2147483648)
+      where
+        by : Dec (suc k ≤ 2147483648) → None ≡ pick (leb (suc k) 2147483648) (Some (negsuc k)) None
+        by (yes l) = absurd (e (record { sfits = omega arith }))
+        by (no l) = rw (lt-leb (suc k) 2147483648 (omega (arith, l)))
+    below (Some x) e = let l : k < 2147483648 = e.0.sfits in rw (le-leb (suc k) 2147483648 (omega arith)) (ap Some e.1)
 
-pub negative-large : (n : ℕ) → 2147483648 < n → negative (Digits n) ≡ Malformed
-unfolding negative pick
-negative-large zero h = absurd (omega arith)
-negative-large (suc k) h = rw (lt-leb (suc k) 2147483648 h)
+-- `i32::try_from(n).ok()`
+pub positive-from : {E : Type 0} (n : ℕ) (r : Result ℤ E) → OkIff r (FitsSigned w32 (pos n)) (pos n) → result_ok r ≡ positive (Some n)
+unfolding positive pick
+positive-from n (Ok x) e = let l : n < 2147483648 = e.0.sfits in rw (lt-ltb n 2147483648 l) (ap Some e.1)
+positive-from n (Err d) e = by (dec_le 2147483648 n)
+  where
+    by : Dec (2147483648 ≤ n) → None ≡ pick (ltb n 2147483648) (Some (pos n)) None
+    by (yes l) = rw (le-ltb n 2147483648 l)
+    by (no l) = absurd (e (record { sfits = omega (arith, l) }))
 
-pub negative-at : (n : ℕ) → (n ≡ 0 → ⊥) → n ≤ 2147483648 → negative (Digits n) ≡ Whole (negsuc (n - 1))
-unfolding negative pick
-negative-at zero z h = absurd (z refl)
-negative-at (suc k) z h = rw (le-leb (suc k) 2147483648 h) (ap (λ (j : ℕ). Whole (negsuc j)) (omega arith))
-
--- ---- a field
-
-pub minus-some : (field : List ℕ) → is_minus field ≡ true → 0 < length field
-unfolding is_minus
-minus-some field e = ltb-true 0 (length field) (both (ltb 0 (length field)) (eqb (get_or field 0 0) 45) e).0
-
-pub counted-whole : (z : ℤ) → SFits w32 z → lt_z (to_z w32 (of_z w32 z)) (pos 0) ≡ false
-    → nat_abs (to_z w32 (of_z w32 z)) ≡ counted (Whole z)
+-- `u32::try_from(z).unwrap_or(0)`, at z = `n.unwrap_or(0)`
+pub counted-from : {E : Type 0} (n : Option ℤ) (r : Result ℕ E)
+    → OkIff r (FitsUnsignedBits 32 (unwrap_or n (pos 0))) (nat_abs (unwrap_or n (pos 0))) → FitsSigned w32 (unwrap_or n (pos 0)) → result_unwrap_or r 0 ≡ counted n
 unfolding counted
-counted-whole z s e = let k = natural z s (rw (to_z-of_z w32 z s) at e) in rw (to_z-of_z w32 z s, k.same)
-
-pub counted-fits : (z : ℤ) → SFits w32 z → lt_z (to_z w32 (of_z w32 z)) (pos 0) ≡ false
-    → T (non_neg (to_z w32 (of_z w32 z))) × Fits w32 (nat_abs (to_z w32 (of_z w32 z)))
-counted-fits z s e =
-    let k = natural z s (rw (to_z-of_z w32 z s) at e) in
-    rw (to_z-of_z w32 z s, k.same) (tt, record { fits = omega (arith, k.small) })
-
-pub counted-below : (z : ℤ) → SFits w32 z → lt_z (to_z w32 (of_z w32 z)) (pos 0) ≡ true → 0 ≡ counted (Whole z)
-unfolding counted
-counted-below (pos n) s e = absurd (omega (arith, ltb-true n 0 (rw (to_z-of_z w32 (pos n) s) at e)))
-counted-below (negsuc n) s e = refl
+counted-from None (Ok x) e s = e.1
+counted-from None (Err d) e s = refl
+counted-from (Some (pos n)) (Ok x) e s = e.1
+counted-from (Some (pos n)) (Err d) e s = let l : n < 2147483648 = s.sfits in absurd (e (omega arith))
+counted-from (Some (negsuc k)) (Ok x) e s = absurd e.0
+counted-from (Some (negsuc k)) (Err d) e s = refl

@@ -10,17 +10,17 @@ use native.Mathlib.Decide.{dec_le}
 use lib.ListN.{length, drop, take, set, length-append, length-set, length-drop, take-append-drop}
 use lib.Seq.{drop-cons, drop_at, drop-length, drop-drop, drop-append-add, get_or-set_same, drop-set-lt}
 use lib.Seq.{take_all, take_at, take-append-le, take-take, length-take-le, set_split, append_snoc}
-use lib.IntN.{ℤ, pos, negsuc, nat_abs, ◌-ℤ◌}
+use lib.IntN.{ℤ, pos, negsuc, nat_abs}
 use lib.Signed.{lt_z}
 use lib.Dec.{ltb}
 use borrow.Author.Tests.{lt-ltb, le-ltb, ltb-true}
 use mir.Syntax.{w32}
 use mir.Val.{SFits, to_z, of_z}
-use mir.ValLaws.{to_z_pos, to_z-of_z}
+use mir.ValLaws.{to_z-of_z}
 use Rattle.lists.specs.Places.{entry}
 use Rattle.lists.proofs.Parts.{first-in-use}
 use Rattle.lists.proofs.Choice.{pick_true, pick-false}
-use Rattle.octets.proofs.TwosComplement.{minus-negsuc, natural}
+use Rattle.octets.proofs.TwosComplement.{natural}
 use Rattle.text.specs.Printing.{with, Puts, digits_before, decimal, signed, after_commas, listed}
 
 -- ---- what is put, as far as there is room
@@ -168,8 +168,8 @@ put-within {area} {area'} {more} {at} {r} h p =
 
 -- ---- digits
 
-digit-more : (bytes : List ℕ) (k d : ℕ) → length bytes ≡ 10 → suc k ≤ 10 → drop k (set bytes k d) ≡ d ∷ drop (suc k) bytes
-digit-more bytes k d e h =
+digit-more : (bytes : List ℕ) (k d : ℕ) → suc k ≤ length bytes → drop k (set bytes k d) ≡ d ∷ drop (suc k) bytes
+digit-more bytes k d h =
     let l : k < length bytes = omega arith in
     rw (drop-cons (set bytes k d) k 0 (rw length-set l), get_or-set_same bytes k d 0 l, drop-set-lt (suc k) bytes k d (omega arith))
 
@@ -182,54 +182,33 @@ unfolding digits_before
 more-digits k rest tail h = pick-false (ltb rest 10) _ _ (le-ltb rest 10 h)
 
 -- the first digit
-pub digits_last : (bytes : List ℕ) (i rest d : ℕ) (written : List ℕ) → length bytes ≡ 10 → i ≤ 10 → 0 < i → rest < 10 → d ≡ 48 + rest % 10
+pub digits_last : (bytes : List ℕ) (i rest d : ℕ) (written : List ℕ) → i ≤ length bytes → 0 < i → rest < 10 → d ≡ 48 + rest % 10
     → written ≡ digits_before i rest (drop i bytes) → drop (i - 1) (set bytes (i - 1) d) ≡ written
-digits_last bytes i rest d written e h some small ed ew =
+digits_last bytes i rest d written h some small ed ew =
     let k : ℕ = i - 1 in
     let s : i ≡ suc k = omega arith in
-    digit-more bytes k d e (omega arith)
+    digit-more bytes k d (omega arith)
     ∙ rw ed (sym (last-digit k rest (drop (suc k) bytes) small))
     ∙ ap (λ (j : ℕ). digits_before j rest (drop j bytes)) (sym s)
     ∙ sym ew
 
 -- a digit that has others before it
-pub digits_more : (bytes : List ℕ) (i rest d : ℕ) (written : List ℕ) → length bytes ≡ 10 → i ≤ 10 → 0 < i → 10 ≤ rest → d ≡ 48 + rest % 10
+pub digits_more : (bytes : List ℕ) (i rest d : ℕ) (written : List ℕ) → i ≤ length bytes → 0 < i → 10 ≤ rest → d ≡ 48 + rest % 10
     → written ≡ digits_before i rest (drop i bytes) → written ≡ digits_before (i - 1) (rest / 10) (drop (i - 1) (set bytes (i - 1) d))
-digits_more bytes i rest d written e h some large ed ew =
+digits_more bytes i rest d written h some large ed ew =
     let k : ℕ = i - 1 in
     let s : i ≡ suc k = omega arith in
     ew
     ∙ ap (λ (j : ℕ). digits_before j rest (drop j bytes)) s
     ∙ more-digits k rest (drop (suc k) bytes) large
-    ∙ ap (digits_before k (rest / 10)) (ap (λ (x : ℕ). x ∷ drop (suc k) bytes) (sym ed) ∙ sym (digit-more bytes k d e (omega arith)))
+    ∙ ap (digits_before k (rest / 10)) (ap (λ (x : ℕ). x ∷ drop (suc k) bytes) (sym ed) ∙ sym (digit-more bytes k d (omega arith)))
 
 -- ---- numbers with a sign
 
--- −1 − z of a negative number z
-pub record Below (z : ℤ) : Type 0 where
-  pub k : ℕ
-  pub is : z ≡ negsuc k
-  pub small : k < 2147483648
-  pub fits : SFits w32 (negsuc 0 -ℤ to_z w32 (of_z w32 z))
-  pub size : to_z w32 (of_z w32 (negsuc 0 -ℤ to_z w32 (of_z w32 z))) ≡ pos k
-
-pub below : (z : ℤ) → SFits w32 z → lt_z (to_z w32 (of_z w32 z)) (pos 0) ≡ true → Below z
-below (pos n) s e = absurd (omega (arith, ltb-true n 0 (rw (to_z-of_z w32 (pos n) s) at e)))
-below (negsuc k) s e =
-    let small : k < 2147483648 = s.sfits in
-    let back : to_z w32 (of_z w32 (negsuc k)) ≡ negsuc k = to_z-of_z w32 (negsuc k) s in
-    let m : negsuc 0 -ℤ to_z w32 (of_z w32 (negsuc k)) ≡ pos k = ap (λ (y : ℤ). negsuc 0 -ℤ y) back ∙ minus-negsuc k in
-    record {
-      k = k;
-      is = refl;
-      small = small;
-      fits = subst (SFits w32) (sym m) (record { sfits = small });
-      size = ap (λ (y : ℤ). to_z w32 (of_z w32 y)) m ∙ to_z_pos w32 k small;
-    }
-
-pub signed_below : (z : ℤ) (b : Below z) → 45 ∷ decimal (nat_abs (to_z w32 (of_z w32 (negsuc 0 -ℤ to_z w32 (of_z w32 z)))) + 1) ≡ signed z
+pub signed_below : (z : ℤ) → SFits w32 z → lt_z (to_z w32 (of_z w32 z)) (pos 0) ≡ true → 45 ∷ decimal (nat_abs (to_z w32 (of_z w32 z))) ≡ signed z
 unfolding signed
-signed_below z b = rw (b.size, b.is, add-one)
+signed_below (pos n) s e = absurd (omega (arith, ltb-true n 0 (rw (to_z-of_z w32 (pos n) s) at e)))
+signed_below (negsuc k) s e = rw (to_z-of_z w32 (negsuc k) s)
 
 pub signed-from-zero : (z : ℤ) → SFits w32 z → lt_z (to_z w32 (of_z w32 z)) (pos 0) ≡ false → decimal (nat_abs (to_z w32 (of_z w32 z))) ≡ signed z
 unfolding signed
@@ -258,7 +237,7 @@ listed-none (z ∷ zs) h = absurd (omega arith)
 
 -- ---- places in use
 
--- `&values[0..r]`, r being `at_most(n, places)`
+-- `&values[0..r]`, r being `n.min(places)`
 pub in_use : {A : Type 0} (values : List A) (places n r : ℕ) → length values ≡ places → r ≡ min n places → take (r - 0) (drop 0 values) ≡ take n values
 in_use values places n r e h = first-in-use values places n r e (λ l. h ∙ min-eq_left l) (λ l. h ∙ min_comm n places ∙ min-eq_left l)
 

@@ -15,10 +15,9 @@ use Rattle.lists.specs.Choice.{pick}
 use Rattle.lists.proofs.Choice.{pick-holds}
 use mir.Syntax.{w32}
 use mir.Val.{SFits}
-use Rattle.text.specs.declared.numbers.Number.TheVariants.{Whole, Malformed}
-use Rattle.text.specs.declared.numbers.Magnitude.{Magnitude}
-use Rattle.text.specs.declared.numbers.Magnitude.TheVariants.{Digits, Other}
-use Rattle.text.specs.Numbers.{is_digit, goes_on, spelled, well_begun, magnitude, is_minus, negative, positive, number_of}
+use Rattle.std.specs.Prelude.{Option, Some, None}
+use Rattle.text.specs.Numbers.{is_digit, goes_on, spelled, well_begun, unsigned, magnitude, is_minus, negative, positive, number_of}
+use Rattle.std.proofs.lemmas.Option.{none-some}
 use Rattle.text.specs.Printing.{digits_before, decimal, signed}
 use Rattle.text.proofs.NumberLaws.{Goes, goes}
 use Rattle.text.proofs.PrintingLaws.{last-digit, more-digits}
@@ -53,30 +52,30 @@ leads (suc k) n tail h s = by (ltb n 10) refl (λ p. leads k (n / 10) ((48 + n %
         let r = more (some k refl l) in
         record { d = r.d; rest = r.rest; is = more-digits k n tail l ∙ r.is; small = r.small; lead = λ m. r.lead (omega arith) }
 
-goes-on : (n d : ℕ) → d < 10 → 10 * n + d ≤ 4294967295 → goes_on n (48 + d) ≡ true
+goes-on : (n d : ℕ) → d < 10 → 10 * n + d ≤ 4294967295 → goes_on 4294967295 n (48 + d) ≡ true
 unfolding goes_on is_digit
 goes-on n d h l = rw (le-leb 48 (48 + d) (omega arith), le-leb (48 + d) 57 (omega arith), le-leb (10 * n + (48 + d - 48)) 4294967295 (omega arith))
 
-spelled-one : (n d v : ℕ) (tail : List ℕ) → d < 10 → 10 * n + d ≡ v → v ≤ 4294967295 → spelled n ((48 + d) ∷ tail) ≡ spelled v tail
+spelled-one : (n d v : ℕ) (tail : List ℕ) → d < 10 → 10 * n + d ≡ v → v ≤ 4294967295 → spelled 4294967295 n ((48 + d) ∷ tail) ≡ spelled 4294967295 v tail
 unfolding spelled pick
 spelled-one n d v tail h e l =
     let s : 10 * n + (48 + d - 48) ≡ v = omega arith in
     rw (goes-on n d h (omega arith), s)
 
 -- the digits of n spell n
-spelled-digits : (k n : ℕ) (tail : List ℕ) → n < 10 ^ k → n ≤ 4294967295 → spelled 0 (digits_before k n tail) ≡ spelled n tail
+spelled-digits : (k n : ℕ) (tail : List ℕ) → n < 10 ^ k → n ≤ 4294967295 → spelled 4294967295 0 (digits_before k n tail) ≡ spelled 4294967295 n tail
 unfolding digits_before
 spelled-digits zero n tail h l = let e : n ≡ 0 = omega arith in rw e
 spelled-digits (suc k) n tail h l = by (ltb n 10) refl (spelled-digits k (n / 10) ((48 + n % 10) ∷ tail) (fewer k n h) (omega arith))
   where
-    by : (t : Bool) → ltb n 10 ≡ t → spelled 0 (digits_before k (n / 10) ((48 + n % 10) ∷ tail)) ≡ spelled (n / 10) ((48 + n % 10) ∷ tail)
-        → spelled 0 (digits_before (suc k) n tail) ≡ spelled n tail
+    by : (t : Bool) → ltb n 10 ≡ t → spelled 4294967295 0 (digits_before k (n / 10) ((48 + n % 10) ∷ tail)) ≡ spelled 4294967295 (n / 10) ((48 + n % 10) ∷ tail)
+        → spelled 4294967295 0 (digits_before (suc k) n tail) ≡ spelled 4294967295 n tail
     by true e more =
         let s = ltb-true n 10 e in
-        ap (spelled 0) (last-digit k n tail s) ∙ spelled-one 0 (n % 10) n tail (omega arith) (omega arith) l
+        ap (spelled 4294967295 0) (last-digit k n tail s) ∙ spelled-one 0 (n % 10) n tail (omega arith) (omega arith) l
     by false e more =
         let s = ltb-false n 10 e in
-        ap (spelled 0) (more-digits k n tail s) ∙ more ∙ spelled-one (n / 10) (n % 10) n tail (omega arith) (omega arith) l
+        ap (spelled 4294967295 0) (more-digits k n tail s) ∙ more ∙ spelled-one (n / 10) (n % 10) n tail (omega arith) (omega arith) l
 
 pub decimal-leads : (n : ℕ) → n ≤ 4294967295 → Leads (decimal n) n
 unfolding decimal
@@ -123,8 +122,8 @@ well-begun zero h = refl
 well-begun (suc n) h = begins (decimal (suc n)) (suc n) (decimal-leads (suc n) h) (omega arith)
 
 -- a number of 32 bits that is printed is read as itself
-pub magnitude-printed : (n : ℕ) → n ≤ 4294967295 → magnitude (decimal n) ≡ Digits n
-unfolding magnitude decimal spelled pick
+pub magnitude-printed : (n : ℕ) → n ≤ 4294967295 → magnitude (decimal n) ≡ Some n
+unfolding magnitude unsigned decimal spelled pick
 magnitude-printed n h = rw (well-begun n h) (spelled-digits 10 n [] (omega arith) h)
 
 minus-first : (bytes : List ℕ) → is_minus (45 ∷ bytes) ≡ true
@@ -132,7 +131,7 @@ unfolding is_minus
 minus-first bytes = rw (lt-ltb 0 (suc (length bytes)) (omega arith))
 
 -- a number that is printed is read as itself
-pub reads-printed : (z : ℤ) → SFits w32 z → number_of (signed z) ≡ Whole z
+pub reads-printed : (z : ℤ) → SFits w32 z → number_of (signed z) ≡ Some z
 unfolding number_of signed positive negative pick
 reads-printed (pos n) s =
     let h : n < 2147483648 = s.sfits in
@@ -145,32 +144,32 @@ reads-printed (negsuc k) s =
 
 -- ---- digits that are read
 
-other : (n : ℕ) {X : Type 0} → Other ≡ Digits n → X
-other n e = absurd (let z : ◌≡◌ {A = ℕ} 0 1 = cc in omega arith)
+other : (n : ℕ) {X : Type 0} → None ≡ Some n → X
+other n e = absurd (none-some n e)
 
 -- what digits after n spell: the first of them goes on
 record Next (n b : ℕ) (bs : List ℕ) (v : ℕ) : Type 0 where
-  goes : Goes n b
-  rest : spelled (10 * n + (b - 48)) bs ≡ Digits v
+  goes : Goes 4294967295 n b
+  rest : spelled 4294967295 (10 * n + (b - 48)) bs ≡ Some v
 
-spelled-next : (n b : ℕ) (bs : List ℕ) → spelled n (b ∷ bs) ≡ pick (goes_on n b) (spelled (10 * n + (b - 48)) bs) Other
+spelled-next : (n b : ℕ) (bs : List ℕ) → spelled 4294967295 n (b ∷ bs) ≡ pick (goes_on 4294967295 n b) (spelled 4294967295 (10 * n + (b - 48)) bs) None
 unfolding spelled
 spelled-next n b bs = refl
 
-next : (n b : ℕ) (bs : List ℕ) (v : ℕ) → spelled n (b ∷ bs) ≡ Digits v → Next n b bs v
+next : (n b : ℕ) (bs : List ℕ) (v : ℕ) → spelled 4294967295 n (b ∷ bs) ≡ Some v → Next n b bs v
 unfolding pick
-next n b bs v e = by (goes_on n b) refl (sym (spelled-next n b bs) ∙ e)
+next n b bs v e = by (goes_on 4294967295 n b) refl (sym (spelled-next n b bs) ∙ e)
   where
-    by : (t : Bool) → goes_on n b ≡ t → pick (goes_on n b) (spelled (10 * n + (b - 48)) bs) Other ≡ Digits v → Next n b bs v
-    by true g e = record { goes = goes n b g; rest = rw g at e }
+    by : (t : Bool) → goes_on 4294967295 n b ≡ t → pick (goes_on 4294967295 n b) (spelled 4294967295 (10 * n + (b - 48)) bs) None ≡ Some v → Next n b bs v
+    by true g e = record { goes = goes 4294967295 n b g; rest = rw g at e }
     by false g e = other v (rw g at e)
 
-no_more : (n v : ℕ) → spelled n [] ≡ Digits v → n ≡ v
+no_more : (n v : ℕ) → spelled 4294967295 n [] ≡ Some v → n ≡ v
 unfolding spelled
 no_more n v e = cc
 
 -- its digits are those of n, and then these
-spelled_back : (bs : List ℕ) (n v j : ℕ) → 0 < n → spelled n bs ≡ Digits v → digits_before (length bs + j) v [] ≡ digits_before j n bs
+spelled_back : (bs : List ℕ) (n v j : ℕ) → 0 < n → spelled 4294967295 n bs ≡ Some v → digits_before (length bs + j) v [] ≡ digits_before j n bs
 spelled_back [] n v j s e = let z : 0 + j ≡ j = omega arith in rw (z, no_more n v e)
 spelled_back (b ∷ bs) n v j s e =
     let x = next n b bs v e in
@@ -183,7 +182,7 @@ spelled_back (b ∷ bs) n v j s e =
     rw z (spelled_back bs m v (suc j) (omega arith) x.rest ∙ more-digits j m bs (omega arith) ∙ rw (tens, unit))
 
 -- it has no more digits than that
-spelled-size : (bs : List ℕ) (n v i : ℕ) → n < 10 ^ i → spelled n bs ≡ Digits v → v < 10 ^ (length bs + i)
+spelled-size : (bs : List ℕ) (n v i : ℕ) → n < 10 ^ i → spelled 4294967295 n bs ≡ Some v → v < 10 ^ (length bs + i)
 spelled-size [] n v i h e = let z : 0 + i ≡ i = omega arith in rw z (omega (arith, no_more n v e))
 spelled-size (b ∷ bs) n v i h e =
     let x = next n b bs v e in
@@ -192,7 +191,7 @@ spelled-size (b ∷ bs) n v i h e =
     rw z (spelled-size bs (10 * n + (b - 48)) v (suc i) (omega (arith, pow-suc 10 i)) x.rest)
 
 -- and is a number of 32 bits
-spelled-most : (bs : List ℕ) (n v : ℕ) → n ≤ 4294967295 → spelled n bs ≡ Digits v → v ≤ 4294967295
+spelled-most : (bs : List ℕ) (n v : ℕ) → n ≤ 4294967295 → spelled 4294967295 n bs ≡ Some v → v ≤ 4294967295
 spelled-most [] n v h e = omega (arith, no_more n v e)
 spelled-most (b ∷ bs) n v h e = let x = next n b bs v e in spelled-most bs (10 * n + (b - 48)) v x.goes.small x.rest
 
@@ -218,7 +217,7 @@ same_digits (suc k) (suc j) n tail h l s t =
         ∙ sym (more-digits j n tail m)
 
 -- digits with no needless zero
-spelled-printed : (b : ℕ) (bs : List ℕ) (v : ℕ) → 48 < b → spelled 0 (b ∷ bs) ≡ Digits v → b ∷ bs ≡ decimal v
+spelled-printed : (b : ℕ) (bs : List ℕ) (v : ℕ) → 48 < b → spelled 4294967295 0 (b ∷ bs) ≡ Some v → b ∷ bs ≡ decimal v
 unfolding decimal
 spelled-printed b bs v s e =
     let x = next 0 b bs v e in
@@ -226,7 +225,7 @@ spelled-printed b bs v s e =
     let high = x.goes.high in
     let n : ℕ = b - 48 in
     let z : 10 * 0 + (b - 48) ≡ n = omega arith in
-    let r : spelled n bs ≡ Digits v = rw z at x.rest in
+    let r : spelled 4294967295 n bs ≡ Some v = rw z at x.rest in
     let unit : 48 + n % 10 ≡ b = omega arith in
     let size : v < 10 ^ (length bs + 1) = spelled-size bs n v 1 (omega arith) r in
     let most : v ≤ 4294967295 = spelled-most bs n v (omega arith) r in
@@ -236,12 +235,12 @@ spelled-printed b bs v s e =
     ∙ rw unit)
 
 -- the only number that begins with a zero
-zero-alone : (bs : List ℕ) (v : ℕ) → well_begun (48 ∷ bs) ≡ true → spelled 0 (48 ∷ bs) ≡ Digits v → 48 ∷ bs ≡ decimal v
+zero-alone : (bs : List ℕ) (v : ℕ) → well_begun (48 ∷ bs) ≡ true → spelled 4294967295 0 (48 ∷ bs) ≡ Some v → 48 ∷ bs ≡ decimal v
 unfolding well_begun decimal digits_before pick
 zero-alone [] v w e = let z : 0 ≡ v = no_more 0 v (next 0 48 [] v e).rest in subst (λ (n : ℕ). 48 ∷ [] ≡ digits_before 10 n []) z refl
 zero-alone (b ∷ bs) v w e = let l = eqb-true (suc (suc (length bs))) 1 (both (ltb 0 (suc (suc (length bs)))) _ w).1 in absurd (omega arith)
 
-begun-printed : (b : ℕ) (bs : List ℕ) (v : ℕ) → well_begun (b ∷ bs) ≡ true → spelled 0 (b ∷ bs) ≡ Digits v → b ∷ bs ≡ decimal v
+begun-printed : (b : ℕ) (bs : List ℕ) (v : ℕ) → well_begun (b ∷ bs) ≡ true → spelled 4294967295 0 (b ∷ bs) ≡ Some v → b ∷ bs ≡ decimal v
 begun-printed b bs v w e = by (eqb b 48) refl
   where
     by : (t : Bool) → eqb b 48 ≡ t → b ∷ bs ≡ decimal v
@@ -253,12 +252,12 @@ begun-printed b bs v w e = by (eqb b 48) refl
         spelled-printed b bs v (omega (arith, eqb-false b 48 z)) e
 
 -- what is read as a number of 32 bits is that number printed
-pub magnitude-back : (digits : List ℕ) (v : ℕ) → magnitude digits ≡ Digits v → digits ≡ decimal v
-unfolding magnitude well_begun pick
+pub magnitude-back : (digits : List ℕ) (v : ℕ) → magnitude digits ≡ Some v → digits ≡ decimal v
+unfolding magnitude unsigned well_begun pick
 magnitude-back [] v e = other v e
 magnitude-back (b ∷ bs) v e = by (well_begun (b ∷ bs)) refl e
   where
-    by : (t : Bool) → well_begun (b ∷ bs) ≡ t → pick (well_begun (b ∷ bs)) (spelled 0 (b ∷ bs)) Other ≡ Digits v → b ∷ bs ≡ decimal v
+    by : (t : Bool) → well_begun (b ∷ bs) ≡ t → pick (well_begun (b ∷ bs)) (spelled 4294967295 0 (b ∷ bs)) None ≡ Some v → b ∷ bs ≡ decimal v
     by true w e = begun-printed b bs v w (rw w at e)
     by false w e = other v (rw w at e)
 
@@ -270,33 +269,33 @@ unfolding is_minus
 minus-split [] e = never e
 minus-split (b ∷ bs) e = ap (λ (d : ℕ). d ∷ bs) (eqb-true b 45 (both (ltb 0 (suc (length bs))) _ e).1)
 
-malformed : {z : ℤ} {X : Type 0} → Malformed ≡ Whole z → X
-malformed e = absurd (let z : ◌≡◌ {A = ℕ} 0 1 = cc in omega arith)
+malformed : {z : ℤ} {X : Type 0} → None ≡ Some z → X
+malformed {z} e = absurd (none-some z e)
 
-positive_back : (field : List ℕ) (m : Magnitude) (z : ℤ) → magnitude field ≡ m → positive m ≡ Whole z → field ≡ signed z
+positive_back : (field : List ℕ) (m : Option ℕ) (z : ℤ) → magnitude field ≡ m → positive m ≡ Some z → field ≡ signed z
 unfolding positive signed pick
-positive_back field Other z e p = malformed p
-positive_back field (Digits n) z e p = by (ltb n 2147483648) refl p
+positive_back field None z e p = malformed p
+positive_back field (Some n) z e p = by (ltb n 2147483648) refl p
   where
-    by : (t : Bool) → ltb n 2147483648 ≡ t → pick (ltb n 2147483648) (Whole (pos n)) Malformed ≡ Whole z → field ≡ signed z
+    by : (t : Bool) → ltb n 2147483648 ≡ t → pick (ltb n 2147483648) (Some (pos n)) None ≡ Some z → field ≡ signed z
     by true l p = let q : pos n ≡ z = cc (rw l at p) in magnitude-back field n e ∙ ap signed q
     by false l p = malformed (rw l at p)
 
-negative_back : (digits : List ℕ) (m : Magnitude) (z : ℤ) → magnitude digits ≡ m → negative m ≡ Whole z → 45 ∷ digits ≡ signed z
+negative_back : (digits : List ℕ) (m : Option ℕ) (z : ℤ) → magnitude digits ≡ m → negative m ≡ Some z → 45 ∷ digits ≡ signed z
 unfolding negative signed pick
-negative_back digits Other z e p = malformed p
-negative_back digits (Digits zero) z e p = malformed p
-negative_back digits (Digits (suc k)) z e p = by (leb (suc k) 2147483648) refl p
+negative_back digits None z e p = malformed p
+negative_back digits (Some zero) z e p = malformed p
+negative_back digits (Some (suc k)) z e p = by (leb (suc k) 2147483648) refl p
   where
-    by : (t : Bool) → leb (suc k) 2147483648 ≡ t → pick (leb (suc k) 2147483648) (Whole (negsuc k)) Malformed ≡ Whole z → 45 ∷ digits ≡ signed z
+    by : (t : Bool) → leb (suc k) 2147483648 ≡ t → pick (leb (suc k) 2147483648) (Some (negsuc k)) None ≡ Some z → 45 ∷ digits ≡ signed z
     by true l p = let q : negsuc k ≡ z = cc (rw l at p) in ap (λ (t : List ℕ). 45 ∷ t) (magnitude-back digits (suc k) e) ∙ ap signed q
     by false l p = malformed (rw l at p)
 
 -- what is read as a number is that number printed
-pub printed-reads : (field : List ℕ) (z : ℤ) → number_of field ≡ Whole z → field ≡ signed z
+pub printed-reads : (field : List ℕ) (z : ℤ) → number_of field ≡ Some z → field ≡ signed z
 unfolding number_of pick
 printed-reads field z e = by (is_minus field) refl e
   where
-    by : (t : Bool) → is_minus field ≡ t → pick (is_minus field) (negative (magnitude (drop 1 field))) (positive (magnitude field)) ≡ Whole z → field ≡ signed z
+    by : (t : Bool) → is_minus field ≡ t → pick (is_minus field) (negative (magnitude (drop 1 field))) (positive (magnitude field)) ≡ Some z → field ≡ signed z
     by true m e = minus-split field m ∙ negative_back (drop 1 field) (magnitude (drop 1 field)) z refl (rw m at e)
     by false m e = positive_back field (magnitude field) z refl (rw m at e)

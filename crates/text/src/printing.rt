@@ -1,14 +1,9 @@
 // Text put together from its left end in an area of any length. The first `at` bytes are what was put so far, and each call tells how many there
 // are then. What has no room is left out.
-ghost use Rattle.std.specs.Prelude.{◌≡◌, [], ◌∷◌, ◌+◌, ◌%◌, ◌≤◌, min, drop};
-ghost use Rattle.text.specs.Printing.{Puts, decimal as Printing·decimal, signed as Printing·signed, after_commas, listed};
-
-// n, or the number of places where that is less.
-pub fn at_most(n: usize, places: usize) -> usize
-    ensures { result ≡ min n places }
-{
-    if n < places { n } else { places }
-}
+// An area and how much of it is in use go in apart: a struct that holds the `&mut` would have a second clause in each contract here, that it still holds
+// the same area.
+ghost use Rattle.std.specs.Prelude.{◌≡◌, [], ◌∷◌, ◌+◌, ◌^◌, ◌<◌, ◌≤◌, length, drop};
+ghost use Rattle.text.specs.Printing.{Puts, digits_before, decimal as Printing·decimal, signed as Printing·signed, after_commas, listed};
 
 // One byte more, where there is room.
 pub fn put_byte(text: &mut [u8], at: usize, b: u8) -> usize
@@ -25,54 +20,44 @@ pub fn put_byte(text: &mut [u8], at: usize, b: u8) -> usize
 pub fn put_word(text: &mut [u8], at: usize, word: &[u8]) -> usize
     ensures { Puts text.old at word.now result text.new }
 {
-    let mut end = at_most(at, text.len());
-    let mut i = 0;
-    while i < word.len() {
-        end = put_byte(text, end, word[i]);
-        i += 1;
+    let mut end = at.min(text.len());
+    for &b in word {
+        end = put_byte(text, end, b);
     }
     end
 }
 
-// Digits, right-aligned: those from `from` on are in use.
-#[derive(Clone, Copy)]
-struct Digits {
-    bytes: [u8; 10],
-    from: usize,
-}
-
-fn digit(n: u32) -> u8
-    ensures { result ≡ 48 + n % 10 }
+// Writes the digits of n at the right end of an area, as many as there is room for, and tells where they start.
+fn put_digits(area: &mut [u8], n: u64) -> usize
+    ensures { (result ≤ length area.old) × (drop result area.new ≡ digits_before (length area.old) n []) }
 {
-    48 + ((n % 10) as u8)
-}
-
-// The digits of n.
-fn digits_of(n: u32) -> Digits
-    ensures { (result.from ≤ 10) × (drop result.from result.bytes ≡ Printing·decimal n) }
-{
-    let mut bytes = [0u8; 10];
     let mut rest = n;
-    let mut i: usize = 10;
-    while 0 < i {
-        i -= 1;
-        bytes[i] = digit(rest);
+    for i in (0..area.len()).rev() {
+        area[i] = b'0' + (rest % 10) as u8;
         if rest < 10 {
-            return Digits { bytes, from: i };
+            return i;
         }
-        rest = rest / 10;
+        rest /= 10;
     }
-    Digits { bytes, from: i }
+    0
+}
+
+// A number that is not negative, in decimal of at most N digits.
+pub fn put_unsigned<const N: usize>(text: &mut [u8], at: usize, n: u64) -> usize
+    requires { N < 2 ^ 63 }
+    ensures { Puts text.old at (digits_before N n []) result text.new }
+{
+    let mut digits = [0u8; N];
+    let from = put_digits(&mut digits, n);
+    let digits = &digits[..];
+    put_word(text, at, &digits[from..])
 }
 
 // A number that is not negative, in decimal.
 pub fn put_decimal(text: &mut [u8], at: usize, n: u32) -> usize
     ensures { Puts text.old at (Printing·decimal n) result text.new }
 {
-    let d = digits_of(n);
-    let bytes = d.bytes;
-    let from = d.from;
-    put_word(text, at, &bytes[from..])
+    put_unsigned::<10>(text, at, u64::from(n))
 }
 
 // A number in decimal, with a minus where it is negative.
@@ -80,11 +65,10 @@ pub fn put_signed(text: &mut [u8], at: usize, z: i32) -> usize
     ensures { Puts text.old at (Printing·signed z) result text.new }
 {
     if z < 0 {
-        let n = ((-1 - z) as u32) + 1;
         let at = put_byte(text, at, 45);
-        return put_decimal(text, at, n);
+        return put_decimal(text, at, z.unsigned_abs());
     }
-    put_decimal(text, at, z as u32)
+    put_decimal(text, at, z.unsigned_abs())
 }
 
 // A comma and a number.
@@ -99,12 +83,9 @@ fn put_next(text: &mut [u8], at: usize, z: i32) -> usize
 fn put_after_commas(text: &mut [u8], at: usize, values: &[i32]) -> usize
     ensures { Puts text.old at (after_commas values.now) result text.new }
 {
-    let mut end = at_most(at, text.len());
-    let mut i = 0;
-    while i < values.len() {
-        let z = values[i];
+    let mut end = at.min(text.len());
+    for &z in values {
         end = put_next(text, end, z);
-        i += 1;
     }
     end
 }
@@ -113,9 +94,11 @@ fn put_after_commas(text: &mut [u8], at: usize, values: &[i32]) -> usize
 pub fn put_list(text: &mut [u8], at: usize, values: &[i32]) -> usize
     ensures { Puts text.old at (listed values.now) result text.new }
 {
-    if values.len() == 0 {
-        return at_most(at, text.len());
+    match values {
+        [] => at.min(text.len()),
+        [first, rest @ ..] => {
+            let at = put_signed(text, at, *first);
+            put_after_commas(text, at, rest)
+        }
     }
-    let at = put_signed(text, at, values[0]);
-    put_after_commas(text, at, &values[1..])
 }

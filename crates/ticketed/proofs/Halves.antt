@@ -1,16 +1,16 @@
--- Laws of numbers of 64 bits as two halves, and of bytes copied from one area to another. Assumes nothing.
+-- Laws of numbers of 64 bits, and of bytes put over all of an area. Assumes nothing.
 use mathlib.Core.Path.{◌≡◌, ap, ◌∙◌}
 use mathlib.Core.List.{List, [], ◌∷◌, ◌++◌, append-nil}
-use Prim.Native.Nat.{ℕ, suc, ◌+◌, ◌*◌, ◌/◌, ◌%◌, ◌≤◌, ◌<◌}
+use Prim.Native.Nat.{ℕ, ◌+◌, ◌*◌, ◌/◌, ◌≤◌}
+use Rattle.std.specs.Int.{w64, to_le_bytes}
 use native.Mathlib.Omega.{arith}
-use native.Mathlib.Numerals.{add-one}
-use lib.ListN.{length, take, drop, get_or, set}
-use lib.Seq.{take-add, drop-drop, get_or-take, get_or-drop, paste, paste-suc, take_all}
+use lib.ListN.{length, take, drop}
+use lib.Seq.{take-add, drop-drop}
 use Rattle.lists.proofs.Parts.{drop-beyond}
-use Rattle.octets.specs.Words.{little_endian, spelled, part, number_at}
+use Rattle.octets.specs.Words.{little_endian, spelled, number_at}
 use Rattle.octets.specs.Areas.{put}
 use Rattle.octets.proofs.Numbers.{length_part}
-use Rattle.octets.proofs.Areas.{put_front, pasted}
+use Rattle.octets.proofs.Areas.{put_front}
 
 -- ---- a number of eight bytes
 
@@ -31,44 +31,19 @@ number-of-halves l i h =
     ∙ four-more (take 4 (drop i l)) (take 4 (drop 4 (drop i l))) (length_part l i 4 (omega arith))
     ∙ ap (λ (t : List ℕ). spelled (take 4 (drop i l)) + 4294967296 * spelled (take 4 t)) (drop-drop 4 i l)
 
--- the lowest byte of a sum whose second part is a multiple of 256 is that of the first
-lowest : (k y w : ℕ) (l : List ℕ) → l ≡ little_endian k (y / 256 + w) → y % 256 ∷ l ≡ little_endian (suc k) (y + 256 * w)
+-- its bytes, as the library writes them
+pub eight-bytes : (x : ℕ) → to_le_bytes w64 x ≡ little_endian 8 x
 unfolding little_endian
-lowest k y w l e =
-    let a : (y + 256 * w) % 256 ≡ y % 256 = omega arith in
-    let b : (y + 256 * w) / 256 ≡ y / 256 + w = omega arith in
-    rw (a, b) (ap (λ (t : List ℕ). y % 256 ∷ t) e)
+eight-bytes x =
+    let second : x / 65536 ≡ x / 256 / 256 = omega arith in
+    let third : x / 16777216 ≡ x / 256 / 256 / 256 = omega arith in
+    let fourth : x / 4294967296 ≡ x / 256 / 256 / 256 / 256 = omega arith in
+    let fifth : x / 1099511627776 ≡ x / 256 / 256 / 256 / 256 / 256 = omega arith in
+    let sixth : x / 281474976710656 ≡ x / 256 / 256 / 256 / 256 / 256 / 256 = omega arith in
+    let seventh : x / 72057594037927936 ≡ x / 256 / 256 / 256 / 256 / 256 / 256 / 256 = omega arith in
+    rw (second, third, fourth, fifth, sixth, seventh)
 
-both_halves : (y z : ℕ) → y < 4294967296 → little_endian 4 y ++ little_endian 4 z ≡ little_endian 8 (y + 256 * (256 * (256 * (256 * z))))
-unfolding little_endian
-both_halves y z h =
-    let e : z ≡ y / 256 / 256 / 256 / 256 + z = omega arith in
-    lowest 7 y (256 * (256 * (256 * z))) _
-    (lowest 6 (y / 256) (256 * (256 * z)) _
-    (lowest 5 (y / 256 / 256) (256 * z) _ (lowest 4 (y / 256 / 256 / 256) z _ (ap (little_endian 4) e))))
-
--- and its bytes are those of its two halves
-pub halves : (x : ℕ) → little_endian 4 (x % 4294967296) ++ little_endian 4 (x / 4294967296) ≡ little_endian 8 x
-halves x =
-    let e : x % 4294967296 + 256 * (256 * (256 * (256 * (x / 4294967296)))) ≡ x = omega arith in
-    both_halves (x % 4294967296) (x / 4294967296) (omega arith) ∙ ap (little_endian 8) e
-
--- ---- bytes copied
-
-module _ (from : List ℕ) (at count : ℕ) (to : List ℕ) (into : ℕ) (room : at + count ≤ length from) where
-  -- one byte more
-  pub one_more : (i : ℕ) → i < count → into + count ≤ length to
-      → set (paste to into (part from at count) i) (into + i) (get_or from (at + i) 0) ≡ paste to into (part from at count) (i + 1)
-  one_more i h fits =
-      let long = length_part from at count room in
-      let here : get_or (part from at count) i 0 ≡ get_or from (at + i) 0 = get_or-take count (drop at from) i 0 h ∙ get_or-drop at from i 0 in
-      rw (add-one, ← here) (paste-suc to into (part from at count) i 0 (omega arith) (omega arith))
-
-  -- all of them
-  pub all-copied : paste to into (part from at count) count ≡ put to into (part from at count)
-  all-copied =
-      let long = length_part from at count room in
-      pasted to into (part from at count) count (omega arith) ∙ ap (put to into) (take_all count (part from at count) (omega arith))
+-- ---- bytes put
 
 -- as many bytes as an area has, put to its start, are all of it
 pub put_all : (l written : List ℕ) → length l ≤ length written → put l 0 written ≡ written

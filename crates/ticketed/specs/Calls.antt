@@ -4,6 +4,7 @@ use Rattle.lists.specs.Choice.{pick}
 use Rattle.lists.specs.Refusals.{Refusal, refusal, first_of}
 use Rattle.octets.specs.Words.{part}
 use Rattle.octets.specs.Areas.{over}
+use Rattle.refusal.specs.declared.Refusal.TheVariants.{Record}
 use Rattle.scram.specs.Answers.{Answered, Done, Refused, answered}
 use Rattle.scram.specs.declared.Answer.TheVariants as Answer
 use Rattle.scram.specs.Events.{refusing}
@@ -132,7 +133,7 @@ asked_as asked = record { answer = asked.answer; ticket = asked.ticket; frame = 
 
 -- an ask that 15 refuses
 abbrev pub refused_ask : Asked
-refused_ask = record { answer = Answer.Refused 15; ticket = 0; frame = 0; command = 0 }
+refused_ask = record { answer = Answer.Refused Record; ticket = 0; frame = 0; command = 0 }
 
 -- what is given of a step
 abbrev pub stepped_as : Plain.Stepped → Stepped
@@ -140,4 +141,4 @@ stepped_as s = record { answer = s.answer; frame = s.frame; command = s.command 
 
 -- a step that 15 refuses
 abbrev pub refused_step : Stepped
-refused_step = record { answer = Answer.Refused 15; frame = 0; command = 0 }
+refused_step = record { answer = Answer.Refused Record; frame = 0; command = 0 }

@@ -1,6 +1,5 @@
 // Asking first: an ask makes no step, so the record stays, and the tickets' part gets what its step would leave.
 ghost use Rattle.std.specs.Prelude.{◌≡◌, true, ◌≤◌, length};
-ghost use Rattle.estimate.specs.Marks.{bit};
 ghost use Rattle.transmitters.specs.Conversion.{converted_row};
 ghost use Rattle.transmitters.specs.Numbers.{readings_of};
 ghost use Rattle.replica.specs.Calls.{tick_outcome, give_up_outcome, arrive_outcome};
@@ -15,8 +14,9 @@ use crate::lengths::{LATEST, MARK, STEP};
 use crate::reading::read;
 use crate::words::{copy, put_u64, u64_at};
 use asks::{Ticketed, Tickets};
-use octets::word::put_byte;
+use octets::word::put_bytes;
 use records::lengths::{HELD, SETTINGS};
+use refusal::Refusal;
 use replica::Replica;
 use scram::Answer;
 use transmitters::numbers::readings_of;
@@ -26,7 +26,7 @@ fn refused() -> Asked
     ensures { result ≡ refused_ask }
 {
     Asked {
-        answer: Answer::Refused(15),
+        answer: Answer::Refused(Refusal::Record),
         ticket: 0,
         frame: 0,
         command: 0,
@@ -38,11 +38,10 @@ fn askable_in(before: Replica, replica: &[u8]) -> Ticketed
     requires { length replica.now ≡ ticketed_length }
     ensures { result ≡ askable before (tickets_at replica.now) }
 {
-    let held = before.held;
     let tickets = Tickets {
         latest: u64_at(replica, LATEST),
         pending: replica[MARK] == 1,
-        held,
+        held: before.held,
     };
     Ticketed {
         replica: before,
@@ -50,18 +49,12 @@ fn askable_in(before: Replica, replica: &[u8]) -> Ticketed
     }
 }
 
-fn mark_byte(mark: bool) -> u8
-    ensures { result ≡ bit mark }
-{
-    if mark { 1 } else { 0 }
-}
-
 // The tickets' part after an ask: where its ticket can be committed, what its step leaves is taken from the record that it gave.
 fn put_tickets(latest: u64, pending: bool, area: &[u8], replica: &mut [u8])
     requires { (length replica.old ≡ ticketed_length) × (head_ok replica.old ≡ true) × (pending ≡ true → record_length ≤ length area.now) }
     ensures { replica.new ≡ noted replica.old latest pending area.now }
 {
-    put_byte(replica, MARK, mark_byte(pending));
+    put_bytes(replica, MARK, &[u8::from(pending)]);
     put_u64(replica, LATEST, latest);
     if pending {
         copy(area, SETTINGS, HELD, replica, STEP);
@@ -80,16 +73,16 @@ fn note(asked: asks::Asked, area: &[u8], replica: &mut [u8]) -> Asked
         area,
         replica,
     );
-    let answer = asked.answer;
     Asked {
-        answer,
+        answer: asked.answer,
         ticket: asked.ticket,
         frame: asked.frame,
         command: asked.command,
     }
 }
 
-// Asks a tick with readings, each by its kind and its bits.
+// Asks a tick with readings, each by its kind and its bits. The three asks differ in one call; a closure for it would be handed both lent areas, and its
+// contract would say what it does to each.
 pub fn ask_tick(
     replica: &mut [u8],
     kinds: &[u8; 4],
@@ -102,12 +95,9 @@ pub fn ask_tick(
         (ask_at replica.old (length area.old) (λ x. tick_outcome x (converted_row (readings_of kinds.now bits.now)) (length frame.old) (length command.old)))
         result replica.new area.old area.new frame.old frame.new command.old command.new }
 {
-    let found = read(replica);
-    let ok = found.ok;
-    if !ok {
+    let Some(before) = read(replica) else {
         return refused();
-    }
-    let before = found.replica;
+    };
     let ticketed = askable_in(before, replica);
     let readings = readings_of(kinds, bits);
     let asked = ticketed.ask_tick(readings, area, frame, command);
@@ -125,12 +115,9 @@ pub fn ask_give_up(
         (ask_at replica.old (length area.old) (λ x. give_up_outcome x (length frame.old) (length command.old)))
         result replica.new area.old area.new frame.old frame.new command.old command.new }
 {
-    let found = read(replica);
-    let ok = found.ok;
-    if !ok {
+    let Some(before) = read(replica) else {
         return refused();
-    }
-    let before = found.replica;
+    };
     let ticketed = askable_in(before, replica);
     let asked = ticketed.ask_give_up(area, frame, command);
     note(asked, area, replica)
@@ -148,12 +135,9 @@ pub fn ask_arrive(
         (ask_at replica.old (length area.old) (λ x. arrive_outcome x bytes.now (length frame.old) (length command.old)))
         result replica.new area.old area.new frame.old frame.new command.old command.new }
 {
-    let found = read(replica);
-    let ok = found.ok;
-    if !ok {
+    let Some(before) = read(replica) else {
         return refused();
-    }
-    let before = found.replica;
+    };
     let ticketed = askable_in(before, replica);
     let asked = ticketed.ask_arrive(bytes, area, frame, command);
     note(asked, area, replica)

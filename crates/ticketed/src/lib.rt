@@ -9,17 +9,10 @@ mod reading;
 pub mod stepping;
 mod words;
 
-use replica::Replica;
 use scram::Answer;
 
-// What reading finds: whether the bytes are a replica with tickets, and the replica, or a blank one where they are not.
-#[derive(Clone, Copy)]
-struct Found {
-    ok: bool,
-    replica: Replica,
-}
-
 // What an ask gives: its answer, its ticket, and the lengths written to the frame area and to the command area, 0 where nothing was.
+// No Result: an answer may be "ignored", and the lengths beside it are numbers that C is given whatever the answer is.
 #[derive(Clone, Copy)]
 pub struct Asked {
     pub answer: Answer,
@@ -28,7 +21,7 @@ pub struct Asked {
     pub command: usize,
 }
 
-// What a step gives that was not asked.
+// What a step gives that was not asked. No Result, for the same reason.
 #[derive(Clone, Copy)]
 pub struct Stepped {
     pub answer: Answer,

@@ -1,7 +1,7 @@
 // Tickets for a replica that was made or returned.
 ghost use Rattle.std.specs.Prelude.{◌≡◌, ◌≤◌, length};
 ghost use Rattle.octets.specs.Areas.{put, over};
-ghost use Rattle.scram.specs.Answers.{answered};
+ghost use Rattle.scram.specs.Answers.{answered_of};
 ghost use Rattle.records.specs.Lengths.{record_length};
 ghost use Rattle.ticketed.specs.Lengths.{ticketed_length};
 ghost use Rattle.ticketed.specs.TicketsPart.{ticket_bytes};
@@ -10,34 +10,30 @@ ghost use Rattle.ticketed.specs.Calls.{answer_of, fresh_tickets, tickets_refusal
 use crate::lengths::{LETTER, TICKETED, TICKETS};
 use crate::words::copy;
 use records::lengths::RECORD;
-use records::reading::{is_done, read};
-use scram::Answer;
+use records::reading::read;
+use refusal::Refusal;
 
 // The tickets' part where no ticket was given.
 fn put_fresh(area: &mut [u8])
     requires { ticketed_length ≤ length area.old }
     ensures { area.new ≡ put area.old record_length (ticket_bytes fresh_tickets) }
 {
-    let mut fresh = [0; 136];
-    fresh[0] = 84;
+    let mut fresh = [0; TICKETS];
+    fresh[0] = b'T';
     fresh[1] = 1;
     copy(&fresh, 0, TICKETS, area, LETTER);
 }
 
 // Writes a record to the start of an area, and behind it the tickets of a replica that was made or returned.
-pub fn with_tickets(stored: &[u8], area: &mut [u8]) -> Answer
-    ensures answer { answered result ≡ answer_of (tickets_refusal stored.now (length area.old)) }
+pub fn with_tickets(stored: &[u8], area: &mut [u8]) -> Result<(), Refusal>
+    ensures answer { answered_of result ≡ answer_of (tickets_refusal stored.now (length area.old)) }
     ensures area { area.new ≡ over (with_tickets stored.now (length area.old)) area.old }
 {
-    let parsed = read(stored);
-    let answer = parsed.answer;
-    if !is_done(answer) {
-        return Answer::Refused(15);
-    }
+    read(stored)?;
     if area.len() < TICKETED {
-        return Answer::Refused(5);
+        return Err(Refusal::Area);
     }
     copy(stored, 0, RECORD, area, 0);
     put_fresh(area);
-    Answer::Done
+    Ok(())
 }

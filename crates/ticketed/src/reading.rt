@@ -1,38 +1,30 @@
 // Reading a replica with tickets.
-ghost use Rattle.std.specs.Prelude.{◌≡◌, length};
-ghost use Rattle.lists.specs.Choice.{pick};
-ghost use Rattle.replica.specs.Settings.{blank_settings};
-ghost use Rattle.replica.specs.Calls.{fresh_of};
+ghost use Rattle.std.specs.Prelude.{◌≡◌, IfSome, length};
+ghost use Rattle.std.specs.Option.{is_some};
 ghost use Rattle.ticketed.specs.Lengths.{ticketed_length};
 ghost use Rattle.ticketed.specs.Reading.{step_record, ticketed_in, head_ok, step_ok, tickets_ok, is_ticketed};
 
-use crate::Found;
 use crate::lengths::{LATEST, LETTER, MARK, STEP, TICKETED, VERSION};
 use crate::words::{copy, u64_at};
+use records::conditions::zero_at;
 use records::lengths::{HELD, RECORD, SETTINGS};
-use records::reading::is_done;
+use replica::Replica;
 
 // The letter T, version 1, a mark, and 0 in the bytes that are not in use.
+#[tactic(auto, unfolding(crate::specs::Reading::head_ok))]
 fn head_ok(area: &[u8]) -> bool
     requires { length area.now ≡ ticketed_length }
     ensures { result ≡ head_ok area.now }
 {
-    (area[LETTER] == 84)
-        & (area[VERSION] == 1)
-        & (area[MARK] <= 1)
-        & (area[619] == 0)
-        & (area[620] == 0)
-        & (area[621] == 0)
-        & (area[622] == 0)
-        & (area[623] == 0)
+    area[LETTER] == b'T' && area[VERSION] == 1 && area[MARK] <= 1 && zero_at(area, 619, 5)
 }
 
 // The record that the step of the latest ticket leaves.
-fn step_record(area: &[u8]) -> [u8; 616]
+fn step_record(area: &[u8]) -> [u8; RECORD]
     requires { length area.now ≡ ticketed_length }
     ensures { result ≡ step_record area.now }
 {
-    let mut bytes = [0; 616];
+    let mut bytes = [0; RECORD];
     copy(area, 0, SETTINGS, &mut bytes, 0);
     copy(area, STEP, HELD, &mut bytes, SETTINGS);
     bytes
@@ -50,38 +42,24 @@ fn step_ok(area: &[u8]) -> bool
         return false;
     }
     let bytes = step_record(area);
-    let parsed = records::reading::read(&bytes);
-    let answer = parsed.answer;
-    is_done(answer)
+    records::reading::read(&bytes).is_ok()
 }
 
 // The length, and the tickets' part.
+#[tactic(auto, unfolding(crate::specs::Reading::tickets_ok))]
 fn tickets_ok(area: &[u8]) -> bool
     ensures { result ≡ tickets_ok area.now }
 {
-    if area.len() != TICKETED {
-        return false;
-    }
-    if !head_ok(area) {
-        return false;
-    }
-    step_ok(area)
+    area.len() == TICKETED && head_ok(area) && step_ok(area)
 }
 
-// Reads a replica with tickets.
-pub(crate) fn read(area: &[u8]) -> Found
-    ensures ok { result.ok ≡ is_ticketed area.now }
-    ensures replica { result.replica ≡ pick (is_ticketed area.now) (ticketed_in area.now).replica (fresh_of blank_settings) }
+// Reads a replica with tickets: none where the bytes are not one.
+pub(crate) fn read(area: &[u8]) -> Option<Replica>
+    ensures found { is_some result ≡ is_ticketed area.now }
+    ensures replica { IfSome result (λ replica. replica ≡ (ticketed_in area.now).replica) }
 {
     if !tickets_ok(area) {
-        let replica = replica::blank();
-        return Found { ok: false, replica };
+        return None;
     }
-    let parsed = records::reading::read(&area[0..RECORD]);
-    let answer = parsed.answer;
-    let replica = parsed.replica;
-    Found {
-        ok: is_done(answer),
-        replica,
-    }
+    records::reading::read(&area[..RECORD]).ok()
 }

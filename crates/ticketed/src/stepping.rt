@@ -14,9 +14,10 @@ ghost use Rattle.ticketed.specs.Calls.{step_at, Steps, refused_step, stepped_as}
 use crate::Stepped;
 use crate::lengths::MARK;
 use crate::reading::read;
-use octets::word::put_byte;
+use octets::word::put_bytes;
 use records::reading::is_done;
 use records::recording::write;
+use refusal::Refusal;
 use scram::Answer;
 use transmitters::numbers::readings_of;
 
@@ -25,7 +26,7 @@ fn refused() -> Stepped
     ensures { result ≡ refused_step }
 {
     Stepped {
-        answer: Answer::Refused(15),
+        answer: Answer::Refused(Refusal::Record),
         frame: 0,
         command: 0,
     }
@@ -37,8 +38,8 @@ fn leave(answer: Answer, next: replica::Replica, replica: &mut [u8])
     ensures { replica.new ≡ pick (is_done (answered answer)) (put (over (recorded next (length replica.old)) replica.old) 618 (0 ∷ [])) replica.old }
 {
     if is_done(answer) {
-        write(next, replica);
-        put_byte(replica, MARK, 0);
+        let _ = write(next, replica);
+        put_bytes(replica, MARK, &[0]);
     }
 }
 
@@ -48,17 +49,15 @@ fn step_of(stepped: replica::Stepped, replica: &mut [u8]) -> Stepped
     ensures stepped { result ≡ stepped_as stepped }
     ensures replica { replica.new ≡ pick (is_done (answered stepped.answer)) (put (over (recorded stepped.replica (length replica.old)) replica.old) 618 (0 ∷ [])) replica.old }
 {
-    let answer = stepped.answer;
-    let next = stepped.replica;
-    leave(answer, next, replica);
+    leave(stepped.answer, stepped.replica, replica);
     Stepped {
-        answer,
+        answer: stepped.answer,
         frame: stepped.frame,
         command: stepped.command,
     }
 }
 
-// A tick with readings, each by its kind and its bits.
+// A tick with readings, each by its kind and its bits. The three steps differ in one call, as the asks do.
 pub fn tick(
     replica: &mut [u8],
     kinds: &[u8; 4],
@@ -70,12 +69,9 @@ pub fn tick(
         (step_at replica.old (λ x. tick_outcome x (converted_row (readings_of kinds.now bits.now)) (length frame.old) (length command.old)))
         result replica.new frame.old frame.new command.old command.new }
 {
-    let found = read(replica);
-    let ok = found.ok;
-    if !ok {
+    let Some(before) = read(replica) else {
         return refused();
-    }
-    let before = found.replica;
+    };
     let readings = readings_of(kinds, bits);
     let stepped = before.tick(readings, frame, command);
     step_of(stepped, replica)
@@ -87,12 +83,9 @@ pub fn give_up(replica: &mut [u8], frame: &mut [u8], command: &mut [u8]) -> Step
         (step_at replica.old (λ x. give_up_outcome x (length frame.old) (length command.old)))
         result replica.new frame.old frame.new command.old command.new }
 {
-    let found = read(replica);
-    let ok = found.ok;
-    if !ok {
+    let Some(before) = read(replica) else {
         return refused();
-    }
-    let before = found.replica;
+    };
     let stepped = before.give_up(frame, command);
     step_of(stepped, replica)
 }
@@ -103,12 +96,9 @@ pub fn arrive(replica: &mut [u8], bytes: &[u8], frame: &mut [u8], command: &mut 
         (step_at replica.old (λ x. arrive_outcome x bytes.now (length frame.old) (length command.old)))
         result replica.new frame.old frame.new command.old command.new }
 {
-    let found = read(replica);
-    let ok = found.ok;
-    if !ok {
+    let Some(before) = read(replica) else {
         return refused();
-    }
-    let before = found.replica;
+    };
     let stepped = before.arrive(bytes, frame, command);
     step_of(stepped, replica)
 }

@@ -2,6 +2,8 @@
 -- Assumes nothing.
 use mathlib.Core.Path.{◌≡◌, refl, sym, ap, ◌∙◌, subst}
 use mathlib.Core.Bool.{Bool, true, false, ◌||◌}
+use Rattle.std.specs.Prelude.{Option, None, Some, Result, Ok, Err, OkIff}
+use Rattle.std.specs.Result.{result_ok}
 use Prim.Native.Nat.{ℕ, zero, suc, ◌+◌, ◌-◌, ◌*◌, ◌/◌, ◌^◌, ◌≤◌, ◌<◌}
 use native.Mathlib.Nat as NatL
 use native.Mathlib.Omega.{arith}
@@ -9,15 +11,14 @@ use lib.Dec.{eqb}
 use lib.IntN.{ℤ, pos, negsuc, neg_ℤ, ◌-ℤ◌, +ℤ_idl}
 use lib.Signed.{mag, lt_z}
 use lib.Pow.{pow-add, pow_pos, pow_mono}
-use borrow.Author.Tests.{lt-leb, le-leb, lt-ltb, ltb-false, eq-eqb, ne_eqb}
+use borrow.Author.Tests.{lt-leb, le-leb, lt-ltb, le-ltb, ltb-false, eq-eqb, ne_eqb}
 use mir.Syntax.{w32, w64}
 use mir.Val.{SFits, Fits, to_z, of_z}
 use mir.Facts.{to_z-of_z, to_z_pos}
 use Rattle.lists.specs.Choice.{pick}
 use Rattle.lists.proofs.Choice.{pick-ok, pick_true, pick-false}
-use Rattle.transmitters.specs.declared.Converted.{Converted}
 use Rattle.transmitters.specs.Single.{negative, exponent, fraction, magnitude, scale, signed, floor, in_units}
-use Rattle.transmitters.specs.Conversion.{given, missing, within_i32, converted_single}
+use Rattle.transmitters.specs.Conversion.{missing, within_i32, converted_single}
 use Rattle.transmitters.proofs.Floor.{floor-same}
 
 -- ---- exponent and fraction
@@ -55,6 +56,9 @@ module _ (bits : ℕ) where
 
   pub scale-pos : 0 < scale bits
   scale-pos = by-exponent (λ e. omega (arith, scale-subnormal e)) (λ n. omega (arith, scale-normal n, n))
+
+-- for the functions of those names
+pub ruleset by_exponents = (magnitude-subnormal, magnitude-normal, scale-subnormal, scale-normal)
 
 -- ---- the sign
 
@@ -95,13 +99,32 @@ module _ (z : ℤ) (h : lt_z z (negsuc 2147483647) ≡ false) where
   unfolding within_i32
   within-high k = pick_true _ _ _ (ap (λ (b : Bool). b || lt_z (pos 2147483647) z) h ∙ k)
 
-  pub within-range : lt_z (pos 2147483647) z ≡ false → within_i32 z ≡ given z
+  pub within-range : lt_z (pos 2147483647) z ≡ false → within_i32 z ≡ Some z
   unfolding within_i32
   within-range k = pick-false _ _ _ (ap (λ (b : Bool). b || lt_z (pos 2147483647) z) h ∙ k)
 
 pub range-fits : (z : ℤ) → lt_z z (negsuc 2147483647) ≡ false → lt_z (pos 2147483647) z ≡ false → SFits w32 z
 range-fits (pos n) h k = record { sfits = omega (arith, ltb-false 2147483647 n k) }
 range-fits (negsuc n) h k = record { sfits = omega (arith, ltb-false 2147483647 n h) }
+
+-- and back
+fits-low : (z : ℤ) → SFits w32 z → lt_z z (negsuc 2147483647) ≡ false
+fits-low (pos n) f = refl
+fits-low (negsuc n) f = le-ltb 2147483647 n (omega arith)
+
+fits-high : (z : ℤ) → SFits w32 z → lt_z (pos 2147483647) z ≡ false
+fits-high (pos n) f = le-ltb 2147483647 n (omega arith)
+fits-high (negsuc n) f = refl
+
+-- what the conversion of i64 to i32 gives, where it gives something
+pub within-converted : {E : Type 0} (z : ℤ) (r : Result ℤ E) → OkIff r (SFits w32 z) z → result_ok r ≡ within_i32 z
+within-converted z (Ok x) h = ap Some h.1 ∙ sym (within-range z (fits-low z h.0) (fits-high z h.0))
+within-converted z (Err e) h = by (lt_z z (negsuc 2147483647)) (lt_z (pos 2147483647) z) refl refl
+  where
+    by : (a b : Bool) → lt_z z (negsuc 2147483647) ≡ a → lt_z (pos 2147483647) z ≡ b → None ≡ within_i32 z
+    by true b p q = sym (within_low z p)
+    by false true p q = sym (within-high z p q)
+    by false false p q = absurd (h (range-fits z p q))
 
 -- ---- up to a scale of 142
 
@@ -145,6 +168,6 @@ single-far bits h =
     let none : 134 - p ≡ 0 = omega arith in
     let past : 9 ≤ p - 134 = omega arith in
     let up : 2 ^ 9 ≤ 2 ^ (p - 134) = pow_mono past in
-    pick-ok (λ (r : Converted). r ≡ missing) _ missing _ (λ _. refl)
+    pick-ok (λ (r : Option ℤ). r ≡ missing) _ missing _ (λ _. refl)
     (λ _. ap (λ (i : ℕ). within_i32 (floor (signed (negative bits) (m * 2 ^ (p - 134))) (2 ^ i))) none
     ∙ outside (negative bits) (m * 2 ^ (p - 134)) (NatL.mul-le-mul large up))

@@ -11,6 +11,8 @@ use lib.Ieee.Nearest.{div_same}
 use borrow.Author.Tests.{le-leb, lt-ltb}
 use mir.Syntax.{w64}
 use mir.Val.{SFits}
+use Rattle.std.proofs.Common.{min, ◌⊎◌, inl, inr}
+use Rattle.std.proofs.lemmas.Bool.{cases_lt}
 use Rattle.lists.specs.Choice.{pick}
 use Rattle.transmitters.specs.Single.{signed, floor}
 use Rattle.transmitters.specs.Meaning.{IsFloor}
@@ -79,8 +81,15 @@ shift_fits x d f = record { sfits = NatL.lt_of_le_of_lt (mag_shr x d) f.sfits }
 gone : (a k : ℕ) → a < 2 ^ 32 → 32 ≤ k → a / 2 ^ 32 ≡ a / 2 ^ k
 gone a k h l = NatL.div-eq_of_lt h ∙ sym (NatL.div-eq_of_lt (NatL.lt_of_lt_of_le h (pow_mono l)))
 
--- of a number with 32 digits nothing is left after 32 places, and so after more
-pub floor-gone : (x : ℤ) (k : ℕ) → mag x < 4294967296 → 32 ≤ k → floor x (2 ^ 32) ≡ floor x (2 ^ k)
+floor-gone : (x : ℤ) (k : ℕ) → mag x < 4294967296 → 32 ≤ k → floor x (2 ^ 32) ≡ floor x (2 ^ k)
 unfolding floor
 floor-gone (pos a) k h l = ap pos (gone a k h l)
 floor-gone (negsuc a) k h l = ap negsuc (gone a k h l)
+
+-- of a number with 32 digits nothing is left after 32 places, and so after more
+pub floor-min : (x : ℤ) (k j : ℕ) → mag x < 4294967296 → j ≡ min k 32 → floor x (2 ^ j) ≡ floor x (2 ^ k)
+floor-min x k j h e = by (cases_lt k 32)
+  where
+    by : (k < 32) ⊎ (32 ≤ k) → floor x (2 ^ j) ≡ floor x (2 ^ k)
+    by (inl l) = ap (λ (i : ℕ). floor x (2 ^ i)) (omega arith)
+    by (inr l) = let is : j ≡ 32 = omega arith in ap (λ (i : ℕ). floor x (2 ^ i)) is ∙ floor-gone x k h l

@@ -1,12 +1,11 @@
--- Laws of NaNs: told by `x != x` and by their bits, they are missing, and any other single is converted by its bits. Assumes nothing.
-use mathlib.Core.Path.{◌≡◌, refl, sym, ap, ◌∙◌, subst}
+-- Laws of NaNs: told by themselves and by their bits, they are missing, and any other single is converted by its bits. Assumes nothing.
+use mathlib.Core.Path.{◌≡◌, refl, sym, ◌∙◌, subst}
 use mathlib.Core.Bool.{true, false}
 use lib.Dec.{T}
 use Prim.Native.Nat.{ℕ, ◌%◌, ◌≤◌, ◌<◌}
 use borrow.Author.Tests.{lt-ltb, le-ltb}
-use lib.Ieee.{Float, nan, inf, fin, ne, is_nan, nan_bits, to_bits, of_bits, binary32}
+use lib.Ieee.{Float, nan, inf, fin, is_nan, nan_bits, to_bits, of_bits, binary32}
 use lib.Ieee.Bits.{nan_bits_is, nan_bits_above}
-use lib.Ieee.Compare.{differs_from_itself, nan_differs}
 use Rattle.lists.proofs.Choice.{pick_true, pick-false}
 use Rattle.transmitters.specs.Conversion.{missing, converted_single, converted_newtons}
 
@@ -14,18 +13,16 @@ pub newtons-nan : converted_newtons nan ≡ missing
 unfolding converted_newtons is_nan
 newtons-nan = pick_true _ _ _ refl
 
-pub nan-missing : (x : Float) → ne x x ≡ true → converted_newtons x ≡ missing
-nan-missing x h = ap converted_newtons (differs_from_itself x (subst T (sym h) tt)) ∙ newtons-nan
-
-pub no_nan : (x : Float) → ne x x ≡ false → is_nan x ≡ false
-unfolding is_nan
-no_nan nan h = sym nan_differs ∙ h
-no_nan (inf s) h = refl
-no_nan (fin s m e) h = refl
+pub nan-missing : (x : Float) → is_nan x ≡ true → converted_newtons x ≡ missing
+unfolding converted_newtons
+nan-missing x h = pick_true _ _ _ h
 
 pub newtons-bits : (x : Float) → is_nan x ≡ false → converted_newtons x ≡ converted_single (to_bits binary32 x)
 unfolding converted_newtons
 newtons-bits x h = pick-false _ _ _ h
+
+-- for the function that converts a single
+pub ruleset by_nan = (nan-missing, newtons-bits)
 
 -- ---- by its bits
 

@@ -2,47 +2,52 @@
 use mathlib.Core.Path.{◌≡◌, refl, sym, ap, ◌∙◌}
 use mathlib.Core.Bool.{Bool, true, false, ◌||◌}
 use mathlib.Core.List.{List, [], ◌∷◌}
+use Rattle.std.specs.Prelude.{Option, Some, is_some, unwrap_or, map}
+use Rattle.std.specs.Fn.{Mut, Called}
+use Rattle.std.specs.Array.{IsMapOf}
+use Rattle.std.proofs.lemmas.List.{ext_get_or, length-map, get_or-map}
+use Rattle.std.proofs.lemmas.Simd.{map-map}
+use native.Mathlib.Omega.{arith}
 use Prim.Native.Nat.{ℕ, zero, suc}
 use lib.Dec.{lit<}
 use lib.IntN.{ℤ, pos, negsuc}
 use lib.Ieee.{Float}
-use lib.ListN.{length, get_or}
+use lib.ListN.{length}
 use lib.Signed.{lt_z}
 use mir.Syntax.{w32}
 use mir.Val.{SFits}
 use Rattle.lists.specs.I32.{AllI32}
 use Rattle.lists.specs.Choice.{pick}
 use Rattle.lists.proofs.Choice.{pick-ok}
-use Rattle.lists.proofs.Places.{four-places}
-use Rattle.readings.specs.declared.Readings.{Readings}
 use Rattle.transmitters.specs.declared.Reading.{Reading}
 use Rattle.transmitters.specs.declared.Reading.TheVariants.{Count, Newtons, Missing}
-use Rattle.transmitters.specs.declared.Converted.{Converted}
-use Rattle.transmitters.specs.Conversion.{given, missing, within_i32, converted_single, converted_newtons, converted, converted_row, CountI32, AllCountsI32}
+use Rattle.transmitters.specs.Conversion.{missing, within_i32, converted_single, converted_newtons, converted, converted_row, CountI32, AllCountsI32}
 use Rattle.transmitters.proofs.Bits.{range-fits}
 
--- ---- the four places
+-- ---- the places
 
--- place i, as the code reads it
-abbrev at : List Reading → ℕ → Reading
-at y i = get_or y i (Count (pos 0))
+-- calls at the elements of a list in turn that give h of each give its map
+pub mapped : {F A B : Type 0} (g : Mut F (A × Unit {0}) B) (h : A → B) (f : F) (xs : List A) (ys : List B) (n : ℕ) → A → length xs ≡ n → IsMapOf g f xs ys n
+    → ((p : F) (x : A) (y : B) (q : F) → Called g p (x, tt) y q → y ≡ h x) → ys ≡ map h xs
+mapped g h f xs ys n d long m one =
+    ext_get_or (h d) ys (map h xs) (m.long ∙ sym (length-map xs h ∙ long))
+    (λ i l. let c = m.at i d (h d) (omega (arith, m.long)) in one c.0 _ _ c.1 c.2 ∙ sym (get_or-map h xs i d (h d) (omega (arith, m.long))))
 
-abbrev row : Converted → Converted → Converted → Converted → Readings
-row a b c d = record {
-  present = a.present ∷ b.present ∷ c.present ∷ d.present ∷ [];
-  values = a.value ∷ b.value ∷ c.value ∷ d.value ∷ [];
-}
-
-pub row-converted : (y : List Reading) (a b c d : Converted) → length y ≡ 4
-    → a ≡ converted (at y 0) → b ≡ converted (at y 1) → c ≡ converted (at y 2) → d ≡ converted (at y 3) → row a b c d ≡ converted_row y
+-- the row that the code makes of the counts of four readings
+pub row-of : (y : List Reading) (counts : List (Option ℤ)) (present : List Bool) (values : List ℤ)
+    → counts ≡ map converted y → present ≡ map is_some counts → values ≡ map (λ x. unwrap_or x (pos 0)) counts
+    → record { present = present; values = values } ≡ converted_row y
 unfolding converted_row
-row-converted y a b c d h p q r s = (λ i. row (p i) (q i) (r i) (s i)) ∙ sym (ap converted_row (four-places (Count (pos 0)) y h))
+row-of y counts present values c p v =
+    let marks = p ∙ ap (map is_some) c ∙ map-map is_some converted y in
+    let numbers = v ∙ ap (map (λ x. unwrap_or x (pos 0))) c ∙ map-map (λ x. unwrap_or x (pos 0)) converted y in
+    λ i. record { present = marks i; values = numbers i }
 
 -- ---- the values
 
 -- its value is an i32
-record FitsI32 (c : Converted) : Type 0 where
-  fits : SFits w32 c.value
+record FitsI32 (c : Option ℤ) : Type 0 where
+  fits : SFits w32 (unwrap_or c (pos 0))
 
 missing-fits : FitsI32 missing
 missing-fits = record { fits = record { sfits = lit< tt } }
@@ -51,7 +56,7 @@ within-fits : (z : ℤ) → FitsI32 (within_i32 z)
 unfolding within_i32 pick
 within-fits z = by (lt_z z (negsuc 2147483647)) (lt_z (pos 2147483647) z) refl refl
   where
-    by : (a b : Bool) → lt_z z (negsuc 2147483647) ≡ a → lt_z (pos 2147483647) z ≡ b → FitsI32 (pick (a || b) missing (given z))
+    by : (a b : Bool) → lt_z z (negsuc 2147483647) ≡ a → lt_z (pos 2147483647) z ≡ b → FitsI32 (pick (a || b) missing (Some z))
     by true b p q = missing-fits
     by false true p q = missing-fits
     by false false p q = record { fits = range-fits z p q }

@@ -5,7 +5,7 @@ pub mod numbers;
 pub mod single;
 
 ghost use Rattle.std.specs.Prelude.{◌≡◌};
-ghost use Rattle.transmitters.specs.Conversion.{missing, converted_newtons, converted, converted_row};
+ghost use Rattle.transmitters.specs.Conversion.{converted_newtons, converted, converted_row};
 
 use readings::Readings;
 use single::convert_single;
@@ -18,43 +18,26 @@ pub enum Reading {
     Missing,
 }
 
-// What the law reads of a reading: a present mark and a count in units of 1/65536, 0 where it is missing.
-#[derive(Clone, Copy)]
-pub struct Converted {
-    pub present: bool,
-    pub value: i32,
-}
-
-fn none() -> Converted
-    ensures { result ≡ missing }
-{
-    Converted {
-        present: false,
-        value: 0,
-    }
-}
-
 // A NaN has no bits of its own in the language, so it is told apart before they are asked for.
-fn convert_newtons(x: f32) -> Converted
+#[tactic(auto, using(crate::proofs::Newtons::by_nan))]
+fn convert_newtons(x: f32) -> Option<i32>
     ensures { result ≡ converted_newtons x }
 {
-    if x != x {
-        return none();
+    if x.is_nan() {
+        return None;
     }
-    convert_single(f32::to_bits(x))
+    convert_single(x.to_bits())
 }
 
-// What the law reads of a reading.
-pub fn convert(reading: Reading) -> Converted
+// What the law reads of a reading: a count in units of 1/65536, where it is there.
+#[tactic(auto, unfolding(crate::specs::Conversion::converted))]
+pub fn convert(reading: Reading) -> Option<i32>
     ensures { result ≡ converted reading }
 {
     match reading {
-        Reading::Count(n) => Converted {
-            present: true,
-            value: n,
-        },
+        Reading::Count(n) => Some(n),
         Reading::Newtons(x) => convert_newtons(x),
-        Reading::Missing => none(),
+        Reading::Missing => None,
     }
 }
 
@@ -62,12 +45,9 @@ pub fn convert(reading: Reading) -> Converted
 pub fn convert_row(y: [Reading; 4]) -> Readings
     ensures { result ≡ converted_row y }
 {
-    let first = convert(y[0]);
-    let second = convert(y[1]);
-    let third = convert(y[2]);
-    let fourth = convert(y[3]);
+    let counts = y.map(convert);
     Readings {
-        present: [first.present, second.present, third.present, fourth.present],
-        values: [first.value, second.value, third.value, fourth.value],
+        present: counts.map(|count| count.is_some()),
+        values: counts.map(|count| count.unwrap_or(0)),
     }
 }

@@ -4,8 +4,7 @@ ghost use Rattle.std.specs.Int.Signed.{mag};
 ghost use Rattle.transmitters.specs.Single.{negative, exponent, scale, magnitude, signed, floor};
 ghost use Rattle.transmitters.specs.Conversion.{within_i32, converted_single};
 
-use crate::{Converted, none};
-
+#[tactic(auto, unfolding(crate::specs::Single::exponent))]
 fn exponent_of(bits: u32) -> u32
     ensures { result ≡ exponent bits }
 {
@@ -13,6 +12,7 @@ fn exponent_of(bits: u32) -> u32
 }
 
 // The exponent, where 0 counts as 1.
+#[tactic(auto, using(crate::proofs::Bits::by_exponents))]
 fn scale_of(bits: u32) -> u32
     ensures { result ≡ scale bits }
 {
@@ -21,6 +21,7 @@ fn scale_of(bits: u32) -> u32
 }
 
 // The fraction with its leading digit, which an exponent of 0 does not have.
+#[tactic(auto, using(crate::proofs::Bits::by_exponents))]
 fn magnitude_of(bits: u32) -> u32
     ensures { result ≡ magnitude bits }
 {
@@ -40,7 +41,7 @@ fn under_sign(bits: u32, n: u32) -> i64
     if bits < 2147483648 {
         n as i64
     } else {
-        0 - (n as i64)
+        -(n as i64)
     }
 }
 
@@ -49,39 +50,26 @@ fn shifted(x: i64, k: u32) -> i64
     requires { mag x < 4294967296 }
     ensures { result ≡ floor x (2 ^ k) }
 {
-    if k < 32 {
-        return x >> k;
-    }
-    x >> 32
+    x >> k.min(32)
 }
 
 // A count inside i32; what lies outside is missing.
-fn within_i32(z: i64) -> Converted
+fn within_i32(z: i64) -> Option<i32>
     ensures { result ≡ within_i32 z }
 {
-    if z < -2147483648 {
-        return none();
-    }
-    if 2147483647 < z {
-        return none();
-    }
-    Converted {
-        present: true,
-        value: z as i32,
-    }
+    i32::try_from(z).ok()
 }
 
 // The single of these bits, times 65536. Beyond a scale of 142 it is outside i32, infinite or a NaN. Up to there it is
 // magnitude × 2^8 / 2^(142 − scale), and magnitude × 2^8 has at most 32 digits.
-pub fn convert_single(bits: u32) -> Converted
+pub fn convert_single(bits: u32) -> Option<i32>
     ensures { result ≡ converted_single bits }
 {
     let scale = scale_of(bits);
     if 142 < scale {
-        return none();
+        return None;
     }
     let magnitude = magnitude_of(bits);
     let x = under_sign(bits, magnitude * 256);
-    let z = shifted(x, 142 - scale);
-    within_i32(z)
+    within_i32(shifted(x, 142 - scale))
 }

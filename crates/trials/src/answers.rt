@@ -1,8 +1,9 @@
-// The number of an answer of making: 0 where the settings are taken, else that of the refusal. Making ignores nothing.
-pub(crate) fn made_number(answer: scram::Answer) -> u8 {
-    match answer {
-        scram::Answer::Done => 0,
-        scram::Answer::Ignored => 0,
-        scram::Answer::Refused(number) => number,
+use refusal::Refusal;
+
+// The number of a call's refusal, 0 where it is not refused.
+pub(crate) fn number_of<T: Drop>(called: Result<T, Refusal>) -> u8 {
+    match called {
+        Ok(_) => 0,
+        Err(refusal) => refusal.into(),
     }
 }

@@ -5,48 +5,42 @@ mod answers;
 mod print;
 mod samples;
 
-use answers::made_number;
+use answers::number_of;
 use print::{answer, number, text};
 use replica::Replica;
 use samples::{law_with, propose, settings};
 
-fn coefficient_line(rt: &impl Print, value: &[u8], place: &[u8], law: law::Settings) {
-    text(rt, b"coefficient ");
-    text(rt, value);
-    text(rt, place);
-    answer(rt, law::number_of(law::check(law)));
+fn coefficient_line(rt: &impl Print, z: i32, table: &str, law: law::Settings) {
+    let _ = print!(rt; "coefficient {z} in {table}: ");
+    answer(rt, number_of(law::check(law)));
 }
 
 // A coefficient in each of the tables.
-fn coefficient(rt: &impl Print, value: &[u8], z: i32) {
-    coefficient_line(rt, value, b" in A: ", law_with(z, 0, 0, 0));
-    coefficient_line(rt, value, b" in L: ", law_with(0, z, 0, 0));
-    coefficient_line(rt, value, b" in C: ", law_with(0, 0, z, 0));
-    coefficient_line(rt, value, b" in K: ", law_with(0, 0, 0, z));
+fn coefficient(rt: &impl Print, z: i32) {
+    coefficient_line(rt, z, "A", law_with(z, 0, 0, 0));
+    coefficient_line(rt, z, "L", law_with(0, z, 0, 0));
+    coefficient_line(rt, z, "C", law_with(0, 0, z, 0));
+    coefficient_line(rt, z, "K", law_with(0, 0, 0, z));
 }
 
 fn frame_line(rt: &impl Print, bytes: &[u8]) {
-    let read = frame::read(4, 2, bytes);
-    let said = read.answer;
     text(rt, b"Propose of ");
     number(rt, bytes.len() as u64);
     text(rt, b" bytes: ");
-    answer(rt, frame::number_of(said));
+    answer(rt, number_of(frame::read(4, 2, bytes)));
 }
 
 // A Propose with n = 4 and m = 2, whole, and a byte shorter and longer.
 fn frames(rt: &impl Print) {
     let mut area = [0u8; frame::lengths::LONGEST_FRAME];
-    frame::write(4, 2, propose(), &mut area);
+    let _ = frame::write(4, 2, propose(), &mut area);
     frame_line(rt, &area[0..52]);
     frame_line(rt, &area[0..53]);
     frame_line(rt, &area[0..54]);
 }
 
 fn make(rt: &impl Print, boxes: u8, own: u8) {
-    let made = Replica::make(settings(boxes, own));
-    let said = made.answer;
-    answer(rt, made_number(said));
+    answer(rt, number_of(Replica::make(settings(boxes, own))));
 }
 
 fn group_line(rt: &impl Print, boxes: u8) {
@@ -66,23 +60,18 @@ fn own_line(rt: &impl Print, boxes: u8, own: u8) {
 }
 
 fn groups(rt: &impl Print) {
-    group_line(rt, 2);
-    group_line(rt, 3);
-    group_line(rt, 9);
-    group_line(rt, 10);
-    own_line(rt, 3, 0);
-    own_line(rt, 3, 3);
-    own_line(rt, 3, 4);
-    own_line(rt, 9, 0);
-    own_line(rt, 9, 9);
-    own_line(rt, 9, 10);
+    for boxes in [2, 3, 9, 10] {
+        group_line(rt, boxes);
+    }
+    for (boxes, own) in [(3, 0), (3, 3), (3, 4), (9, 0), (9, 9), (9, 10)] {
+        own_line(rt, boxes, own);
+    }
 }
 
 fn main(rt: HostRuntime) {
-    coefficient(&rt, b"16777216", 16777216);
-    coefficient(&rt, b"16777217", 16777217);
-    coefficient(&rt, b"-16777216", -16777216);
-    coefficient(&rt, b"-16777217", -16777217);
+    for z in [16777216, 16777217, -16777216, -16777217] {
+        coefficient(&rt, z);
+    }
     frames(&rt);
     groups(&rt);
 }

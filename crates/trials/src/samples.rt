@@ -6,10 +6,10 @@ use replica::Settings;
 
 // One state, one reading and one command, with these coefficients.
 pub(crate) fn law_with(of_a: i32, of_l: i32, of_c: i32, of_k: i32) -> law::Settings {
-    let mut a = [0i32; 36];
-    let mut l = [0i32; 24];
-    let mut c = [0i32; 24];
-    let mut k = [0i32; 24];
+    let mut a = [0; 36];
+    let mut l = [0; 24];
+    let mut c = [0; 24];
+    let mut k = [0; 24];
     a[0] = of_a;
     l[0] = of_l;
     c[0] = of_c;
@@ -22,9 +22,9 @@ pub(crate) fn law_with(of_a: i32, of_l: i32, of_c: i32, of_k: i32) -> law::Setti
         l,
         c,
         k,
-        low: [0i32; 4],
-        high: [0i32; 4],
-        start: [0i32; 6],
+        low: [0; 4],
+        high: [0; 4],
+        start: [0; 6],
     }
 }
 
@@ -43,10 +43,10 @@ pub(crate) fn settings(boxes: u8, own: u8) -> Settings {
 pub(crate) fn propose() -> Frame {
     let readings = Readings {
         present: [true, true, false, false],
-        values: [5i32, 6, 0, 0],
+        values: [5, 6, 0, 0],
     };
     let estimate = Estimate {
-        state: [1i32, 2, 3, 4, 0, 0],
+        state: [1, 2, 3, 4, 0, 0],
         readings,
     };
     Frame {

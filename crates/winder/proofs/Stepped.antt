@@ -1,6 +1,6 @@
 -- What a step leaves in the areas of a caller, from what the functions below ensure: refused by 15, refused by 5, or the event's. Assumes nothing.
 use mathlib.Core.Path.{◌≡◌, refl, sym, ap, ap₂, ◌∙◌, subst}
-use mathlib.Core.Bool.{Bool, true, false, not, ◌&&◌, ◌||◌}
+use mathlib.Core.Bool.{Bool, true, false, not, ◌||◌}
 use mathlib.Core.List.{List, [], ◌∷◌, ◌++◌, append-nil}
 use Prim.Native.Nat.{ℕ, ◌+◌, ◌≤◌}
 use native.Mathlib.Omega.{arith}
@@ -16,9 +16,7 @@ use Rattle.octets.specs.Words.{AllBytes}
 use Rattle.octets.specs.Areas.{put}
 use Rattle.readings.specs.declared.Readings.{Readings}
 use Rattle.readings.specs.Readings.{normalised, mark_beyond}
-use Rattle.law.specs.declared.Settings as Law
 use Rattle.law.specs.Settings.{refusal}
-use Rattle.law.proofs.Lent.{lent}
 use Rattle.frame.specs.Lengths.{longest_frame, longest_command}
 use Rattle.scram.specs.Answers.{Answered, Done, Ignored, Refused, answered}
 use Rattle.scram.specs.Held as Scram
@@ -34,13 +32,12 @@ use Rattle.replica.specs.Frames.{found}
 use Rattle.replica.specs.Calls.{Outcomes, short_area, step_refusal, checked, tick_outcome, give_up_outcome, arrive_outcome}
 use Rattle.replica.specs.Rules.{Does}
 use Rattle.replica.proofs.Accepted.{accepted}
-use Rattle.replica.proofs.Lent.{settings-with, settings-lent, tick-lent, arrival-lent}
 use Rattle.replica.proofs.Calls.{checked_refused, checked-done}
 use Rattle.records.specs.Lengths.{settings_length, record_length}
 use Rattle.records.specs.SettingsPart.{letter, settings_bytes, settings_in}
 use Rattle.records.specs.HeldPart.{held_bytes, held_at}
 use Rattle.records.specs.Recording.{record_bytes}
-use Rattle.records.specs.Reading.{is_done, replica_in, layout_ok, settings_ok, held_ok, is_record, read_replica}
+use Rattle.records.specs.Reading.{is_done, replica_in, layout_ok, settings_ok, is_record, read_replica}
 use Rattle.records.proofs.IsRecord.{layout-length, parts, parts-record}
 use Rattle.records.proofs.SettingsLaws.{settings-written}
 use Rattle.records.proofs.Whole.{Whole, whole-recorded, tick-whole, give-up-whole, arrival-whole, read_whole}
@@ -126,18 +123,19 @@ module _ (b frame command : List ℕ) where
   steps-refused h number = record { answer = refl; replica = refl; written = refl; frame-bytes = refl; command-bytes = refl }
 
   -- 15
-  pub refused-record : (step : Replica → Outcomes) → is_record b ≡ false → Steps b (step_at b step) 15 b (0 ∷ 0 ∷ []) frame frame command command
+  pub refused-record : (step : Replica → Outcomes) {number : ℕ} → number ≡ 15 → is_record b ≡ false
+      → Steps b (step_at b step) number b (0 ∷ 0 ∷ []) frame frame command command
   unfolding step_at
-  refused-record step none =
-      subst (λ o. Steps b o 15 b (0 ∷ 0 ∷ []) frame frame command command) (sym (pick-false (is_record b) _ _ none))
-      (steps-refused (held_in (read_replica b).held) 15)
+  refused-record step {number} e none =
+      subst (λ o. Steps b o number b (0 ∷ 0 ∷ []) frame frame command command) (sym (pick-false (is_record b) _ _ none))
+      (rw e (steps-refused (held_in (read_replica b).held) 15))
 
   -- 5
-  pub refused-areas : (event : Replica → Outcomes) → is_record b ≡ true → short_area (length frame) (length command) ≡ true
-      → Steps b (step_at b (λ x. checked x (length frame) (length command) (event x))) 5 b (0 ∷ 0 ∷ []) frame frame command command
-  refused-areas event is short =
-      subst (λ o. Steps b o 5 b (0 ∷ 0 ∷ []) frame frame command command) (step-short b is (length frame) (length command) event short)
-      (steps-refused (held_in (replica_in b).held) 5)
+  pub refused-areas : (event : Replica → Outcomes) {number : ℕ} → number ≡ 5 → is_record b ≡ true → short_area (length frame) (length command) ≡ true
+      → Steps b (step_at b (λ x. checked x (length frame) (length command) (event x))) number b (0 ∷ 0 ∷ []) frame frame command command
+  refused-areas event {number} e is short =
+      subst (λ o. Steps b o number b (0 ∷ 0 ∷ []) frame frame command command) (step-short b is (length frame) (length command) event short)
+      (rw e (steps-refused (held_in (replica_in b).held) 5))
 
 -- bytes put to the end of an area are its last ones
 pub put_last : (l : List ℕ) (i : ℕ) (written : List ℕ) → length l ≡ i + length written → put l i written ≡ take i l ++ written
@@ -176,18 +174,18 @@ steps-given {b} {o} is bytes whole d =
 
 -- ---- neither 15 nor 5
 
--- the three events at a replica, whose law may be lent
-abbrev ticks : Law.Settings → Readings → Replica → Outcomes
-ticks law y x =
-    Events.tick (law_of law) (group_of (member_of x.settings)) x.settings.own (held_in x.held) (mark_beyond x.settings.law.m y)
+-- the three events at a replica
+abbrev ticks : Readings → Replica → Outcomes
+ticks y x =
+    Events.tick (law_of x.settings.law) (group_of (member_of x.settings)) x.settings.own (held_in x.held) (mark_beyond x.settings.law.m y)
     (normalised x.settings.law.m y)
 
 abbrev gives_up : Replica → Outcomes
 gives_up x = Events.give_up (law_of x.settings.law) (group_of (member_of x.settings)) x.settings.own (held_in x.held)
 
-abbrev arrives : Law.Settings → List ℕ → Replica → Outcomes
-arrives law arrived x =
-    Events.arrival (law_of law) (group_of (member_of x.settings)) x.settings.own (held_in x.held)
+abbrev arrives : List ℕ → Replica → Outcomes
+arrives arrived x =
+    Events.arrival (law_of x.settings.law) (group_of (member_of x.settings)) x.settings.own (held_in x.held)
     (found x.settings.law.n x.settings.law.m arrived)
 
 -- a record was read, and the areas are long enough
@@ -196,15 +194,11 @@ pub record Stands (b : List ℕ) (x : Replica) (frame command : List ℕ) : Type
   pub same : x ≡ replica_in b
   pub long : short_area (length frame) (length command) ≡ false
 
--- a record's parts were read one by one: the layout, the settings, and what is held, with the tables lent
+-- a record's parts were read one by one: the layout, the settings, and what is held
 module _ (b : List ℕ) {s : Settings} (e : s ≡ settings_in b) where
   -- the parts are as they may be exactly where the bytes are a record
-  pub parts-read : {ok : Bool} → layout_ok b ≡ true → ok ≡ parts b (settings-with s) → ok ≡ is_record b
-  parts-read laid found =
-      found
-      ∙ ap (λ (k : ℕ). eqb k 0 && held_ok s.boxes s.law.n s.law.m (held_at b settings_length) b) (settings-lent s)
-      ∙ ap (λ (s : Settings). parts b s) e
-      ∙ parts-record b laid
+  pub parts-read : {ok : Bool} → layout_ok b ≡ true → ok ≡ parts b s → ok ≡ is_record b
+  parts-read laid found = found ∙ ap (λ (s : Settings). parts b s) e ∙ parts-record b laid
 
   pub stands : {h : Held} {frame command : List ℕ} → is_record b ≡ true → h ≡ held_at b settings_length → short_area (length frame) (length command) ≡ false
       → Stands b (record { settings = s; held = h }) frame command
@@ -239,14 +233,14 @@ module _ {b : List ℕ} {x : Replica} {frame command : List ℕ} (s : Stands b x
   -- each of the three
   module _ {given : Given} {number : ℕ} {b' lengths frame' command' : List ℕ} (bytes : AllBytes b) (answer : number ≡ number_of (answered given.answer))
       (record-left : b' ≡ left given b) (written : lengths ≡ given.frame ∷ given.command ∷ []) where
-    pub tick-stepped : {y y' : Readings} → y ≡ y' → DoesAt x (ticks (lent x.settings.law) y x) given frame frame' command command'
+    pub tick-stepped : {y y' : Readings} → y ≡ y' → DoesAt x (ticks y x) given frame frame' command command'
         → Steps b (step_at b (λ x. tick_outcome x y' (length frame) (length command))) number b' lengths frame frame' command command'
     unfolding tick_outcome
     tick-stepped {y} {y'} e d =
-        let same = tick-lent x.settings.law _ _ _ _ _ ∙ ap (λ (y : Readings). ticks x.settings.law y x) e in
+        let same = ap (λ (y : Readings). ticks y x) e in
         let r = replica_in b in
         let whole = tick-whole r.settings.law (group_of (member_of r.settings)) r.settings.own law-stands (held_in r.held) _ y' (read_whole b bytes s.is) in
-        stepped (λ x. ticks x.settings.law y' x) bytes whole
+        stepped (ticks y') bytes whole
         (subst (λ (o : Outcomes). DoesAt x o given frame frame' command command') same d) answer record-left written
 
     pub give-up-stepped : DoesAt x (gives_up x) given frame frame' command command'
@@ -257,11 +251,10 @@ module _ {b : List ℕ} {x : Replica} {frame command : List ℕ} (s : Stands b x
         let whole = give-up-whole r.settings.law (group_of (member_of r.settings)) r.settings.own (held_in r.held) (read_whole b bytes s.is) in
         stepped gives_up bytes whole d answer record-left written
 
-    pub arrive-stepped : (arrived : List ℕ) → DoesAt x (arrives (lent x.settings.law) arrived x) given frame frame' command command'
+    pub arrive-stepped : (arrived : List ℕ) → DoesAt x (arrives arrived x) given frame frame' command command'
         → Steps b (step_at b (λ x. arrive_outcome x arrived (length frame) (length command))) number b' lengths frame frame' command command'
     unfolding arrive_outcome
     arrive-stepped arrived d =
         let r = replica_in b in
         let whole = arrival-whole r.settings.law (group_of (member_of r.settings)) r.settings.own (held_in r.held) arrived (read_whole b bytes s.is) in
-        stepped (λ x. arrives x.settings.law arrived x) bytes whole
-        (subst (λ (o : Outcomes). DoesAt x o given frame frame' command command') (arrival-lent x.settings.law _ _ _ _) d) answer record-left written
+        stepped (arrives arrived) bytes whole d answer record-left written

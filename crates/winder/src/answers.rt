@@ -1,29 +1,27 @@
 // Answers as document 01's numbers.
 ghost use Rattle.std.specs.Prelude.{◌≡◌};
-ghost use Rattle.law.specs.Answer as Law;
-ghost use Rattle.frame.specs.Answers as Frames;
-ghost use Rattle.pages.specs.Answers as Pages;
-ghost use Rattle.scram.specs.Answers.{answered};
+ghost use Rattle.refusal.specs.Numbers.{number};
+ghost use Rattle.scram.specs.Answers.{answered, answered_of};
 ghost use Rattle.winder.specs.Answers.{number_of};
 
+use refusal::Refusal;
 use scram::Answer;
 
-pub(crate) fn law_number(answer: law::Answer) -> u32
-    ensures { result ≡ Law.number answer }
+// The number of a refusal, which is never 0.
+pub fn refusal_number(refusal: Refusal) -> u32
+    ensures { result ≡ number refusal }
 {
-    law::number_of(answer) as u32
+    u32::from(u8::from(refusal))
 }
 
-pub(crate) fn frame_number(answer: frame::Answer) -> u32
-    ensures { result ≡ Frames.number answer }
+// The number of the refusal of a call that gives nothing beside it, and 0 where it is done.
+pub(crate) fn result_number(given: Result<(), Refusal>) -> u32
+    ensures { result ≡ number_of (answered_of given) }
 {
-    frame::number_of(answer) as u32
-}
-
-pub(crate) fn page_number(answer: pages::Answer) -> u32
-    ensures { result ≡ Pages.number answer }
-{
-    pages::number_of(answer) as u32
+    match given {
+        Ok(()) => 0,
+        Err(refusal) => refusal_number(refusal),
+    }
 }
 
 // 0 for done, and 256 for ignored.
@@ -33,6 +31,6 @@ pub fn replica_number(answer: Answer) -> u32
     match answer {
         Answer::Done => 0,
         Answer::Ignored => 256,
-        Answer::Refused(number) => number as u32,
+        Answer::Refused(refusal) => refusal_number(refusal),
     }
 }

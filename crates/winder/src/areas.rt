@@ -12,16 +12,9 @@ use readings::Readings;
 pub fn readings_of(present: &[u8; 4], values: &[i32; 4]) -> Readings
     ensures { result ≡ readings_of present.now values.now }
 {
-    let marks = [
-        present[0] != 0,
-        present[1] != 0,
-        present[2] != 0,
-        present[3] != 0,
-    ];
-    let values = *values;
     Readings {
-        present: marks,
-        values,
+        present: present.map(|byte| byte != 0),
+        values: *values,
     }
 }
 
@@ -34,9 +27,10 @@ pub(crate) fn frame_of(
 ) -> Frame
     ensures { result ≡ frame_of kind_and_sender.now counters.now state.now present.now values.now }
 {
-    let readings = readings_of(present, values);
-    let state = *state;
-    let estimate = Estimate { state, readings };
+    let estimate = Estimate {
+        state: *state,
+        readings: readings_of(present, values),
+    };
     Frame {
         kind: kind_and_sender[0],
         sender: kind_and_sender[1],
@@ -48,21 +42,16 @@ pub(crate) fn frame_of(
     }
 }
 
+// A mark as a byte: callers prove by its clause.
 pub fn mark_byte(mark: bool) -> u8
     ensures { result ≡ bit mark }
 {
-    if mark { 1 } else { 0 }
+    u8::from(mark)
 }
 
 // 1 for a present reading, else 0.
 pub fn marks_of(readings: Readings) -> [u8; 4]
     ensures { result ≡ marks_of readings }
 {
-    let present = readings.present;
-    [
-        mark_byte(present[0]),
-        mark_byte(present[1]),
-        mark_byte(present[2]),
-        mark_byte(present[3]),
-    ]
+    readings.present.map(mark_byte)
 }

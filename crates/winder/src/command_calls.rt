@@ -4,7 +4,7 @@ ghost use Rattle.estimate.specs.Marks.{bit};
 ghost use Rattle.frame.specs.CommandReading.{read_command_refusal, read_command};
 ghost use Rattle.winder.specs.Areas.{unless_refused};
 
-use crate::answers::frame_number;
+use crate::answers::refusal_number;
 use crate::areas::mark_byte;
 
 // Reads a command of p values.
@@ -23,16 +23,14 @@ pub fn winder_read_command(
     ensures limited { limited.new
         ≡ unless_refused (read_command_refusal p bytes.now) (bit (read_command p bytes.now).limited) limited.old }
 {
-    let parsed = frame::read_command(p, bytes);
-    let answer = parsed.answer;
-    let number = frame_number(answer);
-    if number != 0 {
-        return number;
+    match frame::read_command(p, bytes) {
+        Ok(command) => {
+            *period = command.period;
+            let values = command.values;
+            *commands = values;
+            *limited = mark_byte(command.limited);
+            0
+        }
+        Err(refusal) => refusal_number(refusal),
     }
-    let command = parsed.command;
-    *period = command.period;
-    let values = command.values;
-    *commands = values;
-    *limited = mark_byte(command.limited);
-    0
 }

@@ -6,7 +6,7 @@ ghost use Rattle.frame.specs.Writing.{write_refusal, written};
 ghost use Rattle.winder.specs.Areas.{unless_refused};
 ghost use Rattle.winder.specs.FrameAreas.{frame_of, kind_and_sender_of, counters_of, marks_of, length_after};
 
-use crate::answers::frame_number;
+use crate::answers::refusal_number;
 use crate::areas::{frame_of, marks_of};
 
 // Reads a frame of n states and m readings.
@@ -27,23 +27,19 @@ pub fn winder_read_frame(
     ensures present { present.new ≡ unless_refused (read_refusal n m bytes.now) (marks_of (read_frame n m bytes.now).estimate.readings) present.old }
     ensures values { values.new ≡ unless_refused (read_refusal n m bytes.now) (read_frame n m bytes.now).estimate.readings.values values.old }
 {
-    let parsed = frame::read(n, m, bytes);
-    let answer = parsed.answer;
-    let number = frame_number(answer);
-    if number != 0 {
-        return number;
+    match frame::read(n, m, bytes) {
+        Ok(frame) => {
+            *kind_and_sender = [frame.kind, frame.sender];
+            *counters = [frame.period, frame.view, frame.base_view, frame.base_period];
+            let read = frame.estimate.state;
+            *state = read;
+            *present = marks_of(frame.estimate.readings);
+            let given = frame.estimate.readings.values;
+            *values = given;
+            0
+        }
+        Err(refusal) => refusal_number(refusal),
     }
-    let frame = parsed.frame;
-    *kind_and_sender = [frame.kind, frame.sender];
-    *counters = [frame.period, frame.view, frame.base_view, frame.base_period];
-    let estimate = frame.estimate;
-    let x = estimate.state;
-    *state = x;
-    let readings = estimate.readings;
-    *present = marks_of(readings);
-    let given = readings.values;
-    *values = given;
-    0
 }
 
 // Writes a frame of n states and m readings to the start of an area.
@@ -63,11 +59,11 @@ pub fn winder_write_frame(
     ensures length { length.new ≡ length_after n m (frame_of kind_and_sender.now counters.now state.now present.now values.now) area.old length.old }
 {
     let frame = frame_of(kind_and_sender, counters, state, present, values);
-    let written = frame::write(n, m, frame, area);
-    let answer = written.answer;
-    let number = frame_number(answer);
-    if number == 0 {
-        *length = written.length;
+    match frame::write(n, m, frame, area) {
+        Ok(size) => {
+            *length = size;
+            0
+        }
+        Err(refusal) => refusal_number(refusal),
     }
-    number
 }

@@ -4,8 +4,9 @@ ghost use Rattle.law.specs.Settings.{settings_of, refusal};
 ghost use Rattle.law.specs.Law.{updated};
 ghost use Rattle.winder.specs.LawAreas.{readings_of, update_mark_after, commands_after, command_mark_after};
 
-use crate::answers::law_number;
+use crate::answers::refusal_number;
 use crate::areas::{mark_byte, readings_of};
+use law::Tables;
 
 // The state after one period with these readings, and whether clamping changed a value.
 pub fn winder_update<'a>(
@@ -27,17 +28,26 @@ pub fn winder_update<'a>(
     ensures state { state.new ≡ updated (settings_of n m p a.now l.now c.now k.now low.now high.now) state.old (readings_of present.now values.now) }
     ensures limited { limited.new ≡ update_mark_after (settings_of n m p a.now l.now c.now k.now low.now high.now) state.old (readings_of present.now values.now) limited.old }
 {
-    let readings = readings_of(present, values);
-    let updated = law::tables::update(n, m, p, a, l, c, k, low, high, state, readings);
-    let answer = updated.answer;
-    let number = law_number(answer);
-    if number != 0 {
-        return number;
+    let tables = Tables {
+        n,
+        m,
+        p,
+        a,
+        l,
+        c,
+        k,
+        low,
+        high,
+    };
+    match tables.update(state, readings_of(present, values)) {
+        Ok(updated) => {
+            let next = updated.state;
+            *state = next;
+            *limited = mark_byte(updated.limited);
+            0
+        }
+        Err(refusal) => refusal_number(refusal),
     }
-    let next = updated.state;
-    *state = next;
-    *limited = mark_byte(updated.limited);
-    0
 }
 
 // The commands of a state, and whether their limits changed one.
@@ -59,14 +69,24 @@ pub fn winder_command<'a>(
     ensures commands { commands.new ≡ commands_after (settings_of n m p a.now l.now c.now k.now low.now high.now) state.now commands.old }
     ensures limited { limited.new ≡ command_mark_after (settings_of n m p a.now l.now c.now k.now low.now high.now) state.now limited.old }
 {
-    let commanded = law::tables::command(n, m, p, a, l, c, k, low, high, state);
-    let answer = commanded.answer;
-    let number = law_number(answer);
-    if number != 0 {
-        return number;
+    let tables = Tables {
+        n,
+        m,
+        p,
+        a,
+        l,
+        c,
+        k,
+        low,
+        high,
+    };
+    match tables.command(state) {
+        Ok(marked) => {
+            let values = marked.commands;
+            *commands = values;
+            *limited = mark_byte(marked.limited);
+            0
+        }
+        Err(refusal) => refusal_number(refusal),
     }
-    let values = commanded.values;
-    *commands = values;
-    *limited = mark_byte(commanded.limited);
-    0
 }

@@ -1,5 +1,5 @@
 // The law, the frames, the conversion of readings, the shift page and the replica for C programs, on numbers and areas. Crate winder_c exports the
-// functions that include/winder.h declares.
+// functions that include/winder.h declares. C hands the tables, areas and numbers one by one, so these functions take them one by one.
 #![tactic(auto)]
 
 pub mod answers;

@@ -13,7 +13,7 @@ ghost use Rattle.records.specs.Reading.{is_done};
 ghost use Rattle.winder.specs.Answers.{number_of};
 ghost use Rattle.winder.specs.ReplicaAreas.{settings_of, step_at, Steps};
 
-use crate::answers::replica_number;
+use crate::answers::{refusal_number, replica_number, result_number};
 use quorums::Quorums;
 use records::conditions::layout_ok;
 use records::held_part::{held_at, put_held};
@@ -21,6 +21,7 @@ use records::lengths::SETTINGS;
 use records::reading::{is_done, parts_ok};
 use records::recording::write;
 use records::settings_part::settings_in;
+use refusal::Refusal;
 use replica::refusals::short_area;
 use replica::{Given, Replica, Settings, fit};
 use transmitters::convert_row;
@@ -97,15 +98,13 @@ pub fn winder_make(
     ensures answer { result ≡ number_of (record_answer (settings_of n m p a.now l.now c.now k.now low.now high.now start.now boxes own to_decide to_propose) (length replica.old)) }
     ensures replica { replica.new ≡ over (recorded (fresh_of (settings_of n m p a.now l.now c.now k.now low.now high.now start.now boxes own to_decide to_propose)) (length replica.old)) replica.old }
 {
-    let made = Replica::make(settings_of(
+    let settings = settings_of(
         n, m, p, a, l, c, k, low, high, start, boxes, own, to_decide, to_propose,
-    ));
-    let answer = made.answer;
-    if !is_done(answer) {
-        return replica_number(answer);
+    );
+    match Replica::make(settings) {
+        Ok(fresh) => result_number(write(fresh, replica)),
+        Err(refusal) => refusal_number(refusal),
     }
-    let fresh = made.replica;
-    replica_number(write(fresh, replica))
 }
 
 // What a step leaves: the lengths written and, where it was done, the new record, whose first part stays as it is. What is held is written as it stands: of
@@ -140,49 +139,18 @@ pub fn winder_tick(
 {
     *lengths = [0, 0];
     if !layout_ok(replica) {
-        return 15;
+        return refusal_number(Refusal::Record);
     }
     let settings = settings_in(replica);
-    let ok = parts_ok(
-        settings.boxes,
-        settings.own,
-        settings.quorums,
-        settings.law.n,
-        settings.law.m,
-        settings.law.p,
-        &settings.law.a,
-        &settings.law.l,
-        &settings.law.c,
-        &settings.law.k,
-        &settings.law.low,
-        &settings.law.high,
-        replica,
-    );
-    if !ok {
-        return 15;
+    if !parts_ok(&settings, replica) {
+        return refusal_number(Refusal::Record);
     }
     if short_area(frame.len(), command.len()) {
-        return 5;
+        return refusal_number(Refusal::Area);
     }
     let held = held_at(replica, SETTINGS);
     let converted = convert_row(readings_of(kinds, bits));
-    let given = fit::tick(
-        settings.boxes,
-        settings.own,
-        settings.quorums,
-        settings.law.n,
-        settings.law.m,
-        settings.law.p,
-        &settings.law.a,
-        &settings.law.l,
-        &settings.law.c,
-        &settings.law.k,
-        &settings.law.low,
-        &settings.law.high,
-        held,
-        converted,
-        frame,
-    );
+    let given = fit::tick(&settings, held, converted, frame);
     leave(given, replica, lengths)
 }
 
@@ -199,35 +167,17 @@ pub fn winder_give_up(
 {
     *lengths = [0, 0];
     if !layout_ok(replica) {
-        return 15;
+        return refusal_number(Refusal::Record);
     }
     let settings = settings_in(replica);
-    let ok = parts_ok(
-        settings.boxes,
-        settings.own,
-        settings.quorums,
-        settings.law.n,
-        settings.law.m,
-        settings.law.p,
-        &settings.law.a,
-        &settings.law.l,
-        &settings.law.c,
-        &settings.law.k,
-        &settings.law.low,
-        &settings.law.high,
-        replica,
-    );
-    if !ok {
-        return 15;
+    if !parts_ok(&settings, replica) {
+        return refusal_number(Refusal::Record);
     }
     if short_area(frame.len(), command.len()) {
-        return 5;
+        return refusal_number(Refusal::Area);
     }
-    let n = settings.law.n;
-    let m = settings.law.m;
     let held = held_at(replica, SETTINGS);
-    let quorums = settings.quorums;
-    let given = fit::give_up(settings.boxes, settings.own, quorums, n, m, held, frame);
+    let given = fit::give_up(&settings, held, frame);
     leave(given, replica, lengths)
 }
 
@@ -245,48 +195,16 @@ pub fn winder_arrive(
 {
     *lengths = [0, 0];
     if !layout_ok(replica) {
-        return 15;
+        return refusal_number(Refusal::Record);
     }
     let settings = settings_in(replica);
-    let ok = parts_ok(
-        settings.boxes,
-        settings.own,
-        settings.quorums,
-        settings.law.n,
-        settings.law.m,
-        settings.law.p,
-        &settings.law.a,
-        &settings.law.l,
-        &settings.law.c,
-        &settings.law.k,
-        &settings.law.low,
-        &settings.law.high,
-        replica,
-    );
-    if !ok {
-        return 15;
+    if !parts_ok(&settings, replica) {
+        return refusal_number(Refusal::Record);
     }
     if short_area(frame.len(), command.len()) {
-        return 5;
+        return refusal_number(Refusal::Area);
     }
     let held = held_at(replica, SETTINGS);
-    let given = fit::arrive(
-        settings.boxes,
-        settings.own,
-        settings.quorums,
-        settings.law.n,
-        settings.law.m,
-        settings.law.p,
-        &settings.law.a,
-        &settings.law.l,
-        &settings.law.c,
-        &settings.law.k,
-        &settings.law.low,
-        &settings.law.high,
-        held,
-        bytes,
-        frame,
-        command,
-    );
+    let given = fit::arrive(&settings, held, bytes, frame, command);
     leave(given, replica, lengths)
 }

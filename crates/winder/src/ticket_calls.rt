@@ -9,7 +9,7 @@ ghost use Rattle.ticketed.specs.Calls.{tickets_refusal, with_tickets, ask_at, co
 ghost use Rattle.winder.specs.Answers.{number_of};
 ghost use Rattle.winder.specs.TicketAreas.{Asks, Steps};
 
-use crate::answers::replica_number;
+use crate::answers::{replica_number, result_number};
 use ticketed::{Asked, Stepped};
 
 // Writes the record of a replica that was made or returned to the start of an area, with its tickets behind it: none was given.
@@ -17,7 +17,7 @@ pub fn winder_tickets(replica: &[u8], area: &mut [u8]) -> u32
     ensures answer { result ≡ tickets_refusal replica.now (length area.old) }
     ensures area { area.new ≡ over (with_tickets replica.now (length area.old)) area.old }
 {
-    replica_number(ticketed::making::with_tickets(replica, area))
+    result_number(ticketed::making::with_tickets(replica, area))
 }
 
 // What an ask leaves besides the areas.
@@ -91,7 +91,7 @@ pub fn winder_commit(replica: &mut [u8], ticket: u64) -> u32
     ensures answer { result ≡ committing_refusal replica.old ticket }
     ensures replica { replica.new ≡ committing replica.old ticket }
 {
-    replica_number(ticketed::committing::commit(replica, ticket))
+    result_number(ticketed::committing::commit(replica, ticket))
 }
 
 // What a step leaves besides the areas.

@@ -1,13 +1,13 @@
 // Converting a reading.
-ghost use Rattle.std.specs.Prelude.{◌≡◌};
+ghost use Rattle.std.specs.Prelude.{◌≡◌, pos, is_some, unwrap_or};
 ghost use Rattle.estimate.specs.Marks.{bit};
 ghost use Rattle.transmitters.specs.Conversion.{converted_single};
 
 // The single of these bits, in newtons, as the law reads it: its present mark, and its count, 0 where it is missing. Refuses nothing.
 #[unsafe(no_mangle)]
 pub extern "C" fn winder_convert_single(bits: u32, value: &mut i32) -> u8
-    ensures mark { result ≡ bit (converted_single bits).present }
-    ensures value { value.new ≡ (converted_single bits).value }
+    ensures mark { result ≡ bit (is_some (converted_single bits)) }
+    ensures value { value.new ≡ unwrap_or (converted_single bits) (pos 0) }
 {
     winder::reading_calls::winder_convert_single(bits, value)
 }

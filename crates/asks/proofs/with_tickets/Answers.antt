@@ -8,4 +8,4 @@ use Rattle.asks.proofs.with_tickets.Goals as goal
 pub returns : goal.returns
 returns c =
     let with : Tickets → Ticketed = λ t. record { replica = c.args.replica; tickets = t } in
-    ap (λ t. with (tickets_in t)) c.no_tickets-tickets.ensures
+    ap (λ t. with (tickets_in t)) c.no_tickets.ensures

@@ -4,10 +4,10 @@ use Rattle.frame.specs.Lengths.{longest_command}
 use Rattle.frame.specs.Command.{command_limited}
 use Rattle.frame.proofs.command_limited.Goals as goal
 
-pub returns-then-area-lt-LONGEST_COMMAND : goal.returns-then-area-lt-LONGEST_COMMAND
+pub returns-then-area-ge-LONGEST_COMMAND : goal.returns-then-area-ge-LONGEST_COMMAND
 unfolding command_limited
-returns-then-area-lt-LONGEST_COMMAND c = rw (lt-leb longest_command _ c.if-area-lt-LONGEST_COMMAND.true)
+returns-then-area-ge-LONGEST_COMMAND c = rw (le-leb longest_command _ c.if-area-ge-LONGEST_COMMAND.true)
 
-pub returns : goal.returns
+pub returns-else-area-ge-LONGEST_COMMAND : goal.returns-else-area-ge-LONGEST_COMMAND
 unfolding command_limited
-returns c = rw (le-leb longest_command _ c.if-area-lt-LONGEST_COMMAND.false)
+returns-else-area-ge-LONGEST_COMMAND c = rw (lt-leb longest_command _ c.if-area-ge-LONGEST_COMMAND.false)

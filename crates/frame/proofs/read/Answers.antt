@@ -1,23 +1,23 @@
 -- `frame::read` meets its contract: each test of the code is one of the conditions, in their order. Assumes nothing.
 use mathlib.Core.Path.{◌≡◌, refl, sym, ap, ◌∙◌}
 use mathlib.Core.Bool.{true}
+use Rattle.std.proofs.Common.{None, Some, Err, is_some, rules}
+use Rattle.refusal.specs.declared.Refusal.TheVariants as Refusal
 use mathlib.Core.List.{List}
 use Prim.Native.Nat.{ℕ, ◌+◌, ◌-◌}
 use native.Mathlib.Omega.{arith}
-use borrow.Author.Tests.{not-true, not-false}
 use lib.ListN.{length}
 use Rattle.octets.specs.Words.{part}
 use Rattle.octets.proofs.Numbers.{length_part}
 use Rattle.octets.proofs.Areas.{part_of}
 use Rattle.estimate.specs.Lengths.{state_length, readings_length, estimate_length}
 use Rattle.estimate.specs.Reading.{state_in, readings_in, readings_ok, state_part, readings_part, estimate_at, estimate_ok}
-use Rattle.frame.specs.Answers.{number}
 use Rattle.frame.specs.Sizes.{sizes_ok}
 use Rattle.frame.specs.Kinds.{has_parts}
 use Rattle.frame.specs.Lengths.{parts_start}
 use Rattle.frame.specs.Reading.{kind_in, pairs_ok, header_ok, parts_ok, is_frame, headed}
 use Rattle.frame.proofs.Conditions.{Sized, sizes, header-facts, header-there, parts-length}
-use Rattle.frame.proofs.Refusals.{read-sizes, read-malformed, read_done, no-frame, frame-read}
+use Rattle.frame.proofs.Refusals.{read-sizes, read-malformed, read_done, frame-read}
 use Rattle.frame.proofs.Refusals.{bad-header, good-header, by_parts, no-parts-fields, parts-fields}
 use Rattle.frame.proofs.read.Goals as goal
 
@@ -60,10 +60,7 @@ pub returns-then-not-sizes_ok : goal.returns-then-not-sizes_ok
 returns-then-not-sizes_ok c =
     let a = c.args in
     let e = read-sizes a.n a.m a.bytes.now (sym c.sizes_ok.ensures ∙ c.if-not-sizes_ok.true) in
-    record {
-      answer = ap number c.refused_read.ensures.0 ∙ sym e;
-      frame = c.refused_read.ensures.1 ∙ sym (no-frame a.n a.m a.bytes.now 1 e);
-    }
+    record { answer = sym e; frame = tt }
 
 pub header_ok-requires : goal.header_ok-requires
 header_ok-requires c = let s = sizes _ _ (sym c.sizes_ok.ensures ∙ c.if-not-sizes_ok.false) in (s.n-high, s.m-high)
@@ -74,16 +71,13 @@ returns-then-not-header_ok c =
     let sized-test = sym c.sizes_ok.ensures ∙ c.if-not-sizes_ok.false in
     let bad = sym c.header_ok.ensures ∙ c.if-not-header_ok.true in
     let e = read-malformed _ _ _ sized-test (bad-header a.n a.m a.bytes.now bad) in
-    record {
-      answer = ap number c.refused_read-then-not-header_ok.ensures.0 ∙ sym e;
-      frame = c.refused_read-then-not-header_ok.ensures.1 ∙ sym (no-frame a.n a.m a.bytes.now 7 e);
-    }
+    record { answer = sym e; frame = tt }
 
 pub bounds-bytes-0 : goal.bounds-bytes-0
 bounds-bytes-0 c = omega (arith, header-there _ _ _ (header-facts _ _ _ (sym c.header_ok.ensures ∙ c.if-not-header_ok.false)))
 
-pub headed_by-frame-requires : goal.headed_by-frame-requires
-headed_by-frame-requires c = header-there _ _ _ (header-facts _ _ _ (sym c.header_ok.ensures ∙ c.if-not-header_ok.false))
+pub headed_by-requires : goal.headed_by-requires
+headed_by-requires c = header-there _ _ _ (header-facts _ _ _ (sym c.header_ok.ensures ∙ c.if-not-header_ok.false))
 
 pub returns-then-not-has_parts : goal.returns-then-not-has_parts
 returns-then-not-has_parts c =
@@ -94,7 +88,7 @@ returns-then-not-has_parts c =
     record {
       answer = sym e;
       frame =
-          c.headed_by-frame.ensures
+          c.headed_by.ensures
           ∙ ap (headed a.bytes.now) c.no_estimate.ensures
           ∙ sym (frame-read a.n a.m a.bytes.now e ∙ no-parts-fields a.n a.m a.bytes.now k);
     }
@@ -117,10 +111,7 @@ returns-then-not-pairs_ok c =
     (sym c.header_ok.ensures ∙ c.if-not-header_ok.false)
     (sym c.has_parts.ensures ∙ c.if-not-has_parts.false) in
     let e = read-malformed a.n a.m a.bytes.now k.sized-test (k.in_parts ∙ rw (sym c.pairs_ok.ensures ∙ c.if-not-pairs_ok.true)) in
-    record {
-      answer = ap number c.refused_read-then-not-pairs_ok.ensures.0 ∙ sym e;
-      frame = c.refused_read-then-not-pairs_ok.ensures.1 ∙ sym (no-frame a.n a.m a.bytes.now 7 e);
-    }
+    record { answer = sym e; frame = tt }
 
 pub state_length-state_end-requires : goal.state_length-state_end-requires
 state_length-state_end-requires c =
@@ -188,8 +179,8 @@ read_state-state-requires c =
           ∙ length_part a.bytes.now parts_start (state_length a.n) (omega (arith, k.whole)),
     )
 
-pub checked_readings-checked-requires : goal.checked_readings-checked-requires
-checked_readings-checked-requires c =
+pub checked_readings-requires : goal.checked_readings-requires
+checked_readings-requires c =
     let a = c.args in
     let k =
     found a.n a.m a.bytes.now (sym c.sizes_ok.ensures ∙ c.if-not-sizes_ok.false)
@@ -201,8 +192,8 @@ checked_readings-checked-requires c =
       ap length part ∙ length_part a.bytes.now (parts_start + state_length a.n) (readings_length a.m) (omega (arith, k.whole)),
     )
 
-pub returns-then-not-checked : goal.returns-then-not-checked
-returns-then-not-checked c =
+pub returns-in_err-readings : goal.returns-in_err-readings
+returns-in_err-readings c =
     let a = c.args in
     let k =
     found a.n a.m a.bytes.now (sym c.sizes_ok.ensures ∙ c.if-not-sizes_ok.false)
@@ -210,16 +201,15 @@ returns-then-not-checked c =
     (sym c.has_parts.ensures ∙ c.if-not-has_parts.false) in
     let paired = sym c.pairs_ok.ensures ∙ c.if-not-pairs_ok.false in
     let part = readings-part a.n a.m a.bytes.now _ _ c.state_length-state_end.ensures c.readings_length.ensures in
-    let all = c.checked_readings-checked.ensures.ok ∙ ap (readings_ok a.m) part ∙ judged a.n a.m a.bytes.now paired in
-    let bad = sym all ∙ not-true _ c.if-not-checked.true in
+    let all = c.checked_readings.ensures.ok ∙ ap (readings_ok a.m) part ∙ judged a.n a.m a.bytes.now paired in
+    let none : c.checked_readings.result ≡ None = search rules in
+    let bad = sym all ∙ ap is_some none in
     let e = read-malformed a.n a.m a.bytes.now k.sized-test (k.in_parts ∙ bad) in
-    record {
-      answer = ap number c.refused_read-then-not-checked.ensures.0 ∙ sym e;
-      frame = c.refused_read-then-not-checked.ensures.1 ∙ sym (no-frame a.n a.m a.bytes.now 7 e);
-    }
+    let gives : c.from_residual.result ≡ Err Refusal.Frame = search rules in
+    rw gives (record { answer = sym e; frame = tt })
 
-pub headed_by-frame-requires-2 : goal.headed_by-frame-requires-2
-headed_by-frame-requires-2 c =
+pub headed_by-requires-2 : goal.headed_by-requires-2
+headed_by-requires-2 c =
     let a = c.args in
     let k =
     found a.n a.m a.bytes.now (sym c.sizes_ok.ensures ∙ c.if-not-sizes_ok.false)
@@ -237,16 +227,17 @@ returns c =
     (sym c.has_parts.ensures ∙ c.if-not-has_parts.false) in
     let paired = sym c.pairs_ok.ensures ∙ c.if-not-pairs_ok.false in
     let part = readings-part a.n a.m a.bytes.now _ _ c.state_length-state_end.ensures c.readings_length.ensures in
-    let all = c.checked_readings-checked.ensures.ok ∙ ap (readings_ok a.m) part ∙ judged a.n a.m a.bytes.now paired in
-    let taken = not-false _ c.if-not-checked.false in
+    let all = c.checked_readings.ensures.ok ∙ ap (readings_ok a.m) part ∙ judged a.n a.m a.bytes.now paired in
+    let some : c.checked_readings.result ≡ Some c.in_ok-readings.readings = search rules in
+    let taken = ap is_some some in
     let good = k.in_parts ∙ sym all ∙ taken in
     let e = read_done a.n a.m a.bytes.now k.sized-test good in
     let state = c.read_state-state.ensures ∙ ap (state_in a.n) (state-part a.n a.bytes.now _ c.state_length-state_end.ensures) in
-    let readings = c.checked_readings-checked.ensures.readings taken ∙ ap (readings_in a.m) part in
+    let readings = (rw some at c.checked_readings.ensures.readings) ∙ ap (readings_in a.m) part in
     record {
       answer = sym e;
       frame =
-          c.headed_by-frame-2.ensures
+          c.headed_by-2.ensures
           ∙ (λ i. headed a.bytes.now (record { state = state i; readings = readings i }))
           ∙ sym (frame-read a.n a.m a.bytes.now e ∙ parts-fields a.n a.m a.bytes.now k.parts-test);
     }

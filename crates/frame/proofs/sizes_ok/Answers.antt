@@ -1,25 +1,23 @@
--- `frame::sizes_ok` meets its contract: each test of the code is a test of the definition. Assumes nothing.
+-- `frame::sizes_ok` meets its contract: the four tests of the definition, two for each size. Assumes nothing.
+use Rattle.std.proofs.Common.{◌≡◌, ◌∙◌, sym, ap, ap₂, refl, Bool, true, false, ◌&&◌, leb}
 use Rattle.frame.specs.Sizes.{sizes_ok}
-use borrow.Author.Tests.{le-leb, lt-leb}
 use Rattle.frame.proofs.sizes_ok.Goals as goal
 
-pub returns-then-n-lt1 : goal.returns-then-n-lt1
-unfolding sizes_ok
-returns-then-n-lt1 c = rw (lt-leb 1 c.args.n c.if-n-lt1.true)
+four-tests : (a b c d : Bool) → (a && b) && (c && d) ≡ a && (b && (c && d))
+four-tests true b c d = refl
+four-tests false b c d = refl
 
-pub returns-then-n-gt6 : goal.returns-then-n-gt6
+pub returns-then-in_range : goal.returns-then-in_range
 unfolding sizes_ok
-returns-then-n-gt6 c =
-    let n = c.args.n in rw (le-leb 1 n c.if-n-lt1.false, lt-leb n 6 c.if-n-gt6.true)
+returns-then-in_range c =
+    let n = c.args.n in
+    let m = c.args.m in
+    ap₂ (λ (a b : Bool). a && b) (sym c.if-in_range.true ∙ c.in_range.ensures) c.in_range-then-in_range.ensures ∙ four-tests (leb 1 n) (leb n 6) (leb 1 m) (leb m 4)
 
-pub returns-then-m-lt1 : goal.returns-then-m-lt1
+pub returns-else-in_range : goal.returns-else-in_range
 unfolding sizes_ok
-returns-then-m-lt1 c =
-    let a = c.args in
-    rw (le-leb 1 a.n c.if-n-lt1.false, le-leb a.n 6 c.if-n-gt6.false, lt-leb 1 a.m c.if-m-lt1.true)
-
-pub returns : goal.returns
-unfolding sizes_ok
-returns c =
-    let a = c.args in
-    rw (le-leb 1 a.n c.if-n-lt1.false, le-leb a.n 6 c.if-n-gt6.false, le-leb 1 a.m c.if-m-lt1.false)
+returns-else-in_range c =
+    let m = c.args.m in
+    c.if-in_range.false
+    ∙ ap (λ (a : Bool). a && (leb 1 m && leb m 4)) (sym c.if-in_range.false ∙ c.in_range.ensures)
+    ∙ four-tests (leb 1 c.args.n) (leb c.args.n 6) (leb 1 m) (leb m 4)

@@ -1,6 +1,5 @@
 -- `frame::write` meets its contract: each test of the code is a case of the definition, in their order. Assumes nothing.
-use mathlib.Core.Path.{sym, ap, ◌∙◌}
-use Rattle.frame.specs.Answers.{number}
+use mathlib.Core.Path.{sym, ◌∙◌}
 use Rattle.octets.proofs.Areas.{put_front}
 use Rattle.frame.proofs.Conditions.{sizes}
 use Rattle.frame.proofs.Refusals.{write-sizes, write-area, write-malformed, write_done, nothing_written, frame-written}
@@ -10,15 +9,13 @@ pub returns-then-not-sizes_ok : goal.returns-then-not-sizes_ok
 returns-then-not-sizes_ok c =
     let a = c.args in
     let e = write-sizes a.n a.m a.frame a.area.now (sym c.sizes_ok.ensures ∙ c.if-not-sizes_ok.true) in
-    let w = nothing_written a.n a.m a.frame a.area.now 1 e in
-    record { answer = ap number c.refused_write.ensures.0 ∙ sym e; count = c.refused_write.ensures.1 ∙ rw w; bytes = rw w }
+    record { answer = sym e; count = tt; bytes = rw (nothing_written a.n a.m a.frame a.area.now 1 e) }
 
 pub returns-then-area-lt-LONGEST_FRAME : goal.returns-then-area-lt-LONGEST_FRAME
 returns-then-area-lt-LONGEST_FRAME c =
     let a = c.args in
     let e = write-area a.n a.m a.frame a.area.now (sym c.sizes_ok.ensures ∙ c.if-not-sizes_ok.false) c.if-area-lt-LONGEST_FRAME.true in
-    let w = nothing_written a.n a.m a.frame a.area.now 4 e in
-    record { answer = ap number c.refused_write-then-area-lt-LONGEST_FRAME.ensures.0 ∙ sym e; count = c.refused_write-then-area-lt-LONGEST_FRAME.ensures.1 ∙ rw w; bytes = rw w }
+    record { answer = sym e; count = tt; bytes = rw (nothing_written a.n a.m a.frame a.area.now 4 e) }
 
 pub well_formed-requires : goal.well_formed-requires
 well_formed-requires c = (sizes _ _ (sym c.sizes_ok.ensures ∙ c.if-not-sizes_ok.false)).m-high
@@ -28,11 +25,10 @@ returns-then-not-well_formed c =
     let a = c.args in
     let e = write-malformed a.n a.m a.frame a.area.now (sym c.sizes_ok.ensures ∙ c.if-not-sizes_ok.false)
     c.if-area-lt-LONGEST_FRAME.false (sym c.well_formed-2.ensures ∙ c.if-not-well_formed.true) in
-    let w = nothing_written a.n a.m a.frame a.area.now 7 e in
-    record { answer = ap number c.refused_write-then-not-well_formed.ensures.0 ∙ sym e; count = c.refused_write-then-not-well_formed.ensures.1 ∙ rw w; bytes = rw w }
+    record { answer = sym e; count = tt; bytes = rw (nothing_written a.n a.m a.frame a.area.now 7 e) }
 
-pub put_frame-length-requires : goal.put_frame-length-requires
-put_frame-length-requires c =
+pub put_frame-requires : goal.put_frame-requires
+put_frame-requires c =
     let s = sizes _ _ (sym c.sizes_ok.ensures ∙ c.if-not-sizes_ok.false) in (s.n-high, s.m-high, c.if-area-lt-LONGEST_FRAME.false)
 
 pub returns : goal.returns
@@ -42,5 +38,5 @@ returns c =
     c.if-area-lt-LONGEST_FRAME.false
     (sym c.well_formed-2.ensures ∙ c.if-not-well_formed.false) in
     let w = frame-written a.n a.m a.frame a.area.now e in
-    let p = c.put_frame-length.ensures in
+    let p = c.put_frame.ensures in
     record { answer = sym e; count = p.0 ∙ rw w; bytes = p.1 ∙ put_front _ _ ∙ rw w }

@@ -1,7 +1,8 @@
--- `law::check` meets its contract: the tables of settings make those settings, but for the starting state, which no call looks at. Assumes nothing.
-use Rattle.law.specs.Settings.{refusals, refusal}
+-- `law::check` meets its contract. Assumes nothing.
+use Rattle.std.proofs.Common.{ap, ◌∙◌}
+use Rattle.law.specs.Settings.{refusal}
+use Rattle.law.proofs.Lent.{refusal-lent}
 use Rattle.law.proofs.check.Goals as goal
 
 pub returns : goal.returns
-unfolding refusal refusals
-returns c = c.check.ensures
+returns c = c.check.ensures ∙ ap refusal c.tables.ensures ∙ refusal-lent c.args.settings

@@ -1,34 +1,24 @@
--- `opening::fill` meets its contract. The loop's invariant: the first k places hold their entries and the others 0. The measure is the number
--- of places left. Assumes nothing.
-use mathlib.Core.Path.{◌≡◌, sym, ◌∙◌}
-use Prim.Native.Nat.{◌<◌}
-use lib.ListN.{length, length-set}
-use lib.IntN.{pos}
-use mir.Syntax.{w32}
-use mir.ValLaws.{to_z-of_z}
-use borrow.Author.Rules.{rules}
-use native.Mathlib.Omega.{arith}
+-- `opening::fill` meets its contract. Assumes nothing.
+use Rattle.std.proofs.Common.{sym, ◌∙◌, arith, ◌≡◌, ◌<◌, length}
+use Rattle.std.proofs.Common.{pos, w32}
+use Rattle.std.proofs.lemmas.Int.{to_z-of_z}
 use Rattle.lists.proofs.Places.{filled_none, filled_more}
 use Rattle.opening.specs.Opening.{table_of}
 use Rattle.opening.proofs.fill.Goals as goal
 
 pub loop-k-init : goal.loop-k-init
-loop-k-init c =
-    let s = c.args in
-    (omega arith, c.requires.4 ∙ sym (filled_none (pos 0) (length s.out.now) _), search rules)
+loop-k-init c = c.requires.4 ∙ sym (filled_none (pos 0) (length c.args.out.now) _)
 
 pub loop-k-preserved : goal.loop-k-preserved
 loop-k-preserved c =
     let l = c.loop-k in
-    let s = c.args in
-    let h : l.k < length s.out.now = omega arith in
-    let back = to_z-of_z w32 c.entry_in-z.result (record { sfits = c.entry_in-z.type_inv }) in
-    (omega arith, rw (l.invariant.1, back, c.entry_in-z.ensures) (filled_more (pos 0) (length s.out.now) l.k _ h), simp length-set l.invariant.2)
+    let h : l.k < length c.args.out.now = omega arith in
+    let back = to_z-of_z w32 c.entry_in.result (record { sfits = c.entry_in.type_inv }) in
+    rw (l.invariant, back, c.entry_in.ensures) (filled_more (pos 0) (length c.args.out.now) l.k _ h)
 
 pub returns : goal.returns
 unfolding table_of
 returns c =
     let l = c.loop-k in
-    let s = c.args in
-    let e : l.k ≡ length s.out.now = omega arith in
-    rw e at l.invariant.1
+    let e : l.k ≡ length c.args.out.now = omega arith in
+    rw e at l.invariant

@@ -1,32 +1,16 @@
 -- `transmitters::convert_row` meets its contract. Assumes nothing.
-use mathlib.Core.Path.{◌≡◌, ◌∙◌}
-use mathlib.Core.List.{[], ◌∷◌}
-use lib.ListN.{length}
-use mir.Syntax.{w32}
-use mir.Val.{to_z, of_z}
-use borrow.Author.Rules.{rules}
-use Rattle.transmitters.proofs.Rows.{row-converted}
+use Rattle.std.proofs.Common.{rules, ◌≡◌, pos, map, None, is_some, unwrap_or}
+use Rattle.transmitters.specs.declared.Reading.TheVariants.{Missing}
+use Rattle.transmitters.specs.Conversion.{converted}
+use Rattle.transmitters.proofs.Rows.{mapped, row-of}
 use Rattle.transmitters.proofs.convert_row.Goals as goal
-use Rattle.transmitters.proofs.convert_row.Lts as lts
-use Rattle.transmitters.proofs.convert_row.Reads as reads
-use Rattle.transmitters.proofs.convert_row.Tie as tie
-
-length-four : (c : lts.Start tie.the-claims reads.Pre reads.Post) → length c.args.y ≡ 4
-length-four c = search rules
 
 pub returns : goal.returns
 returns c =
-    let first = c.convert-first in
-    let second = c.convert-second in
-    let third = c.convert-third in
-    let fourth = c.convert-fourth in
-    let p : to_z w32 (of_z w32 first.result.value) ≡ first.result.value = search rules in
-    let q : to_z w32 (of_z w32 second.result.value) ≡ second.result.value = search rules in
-    let r : to_z w32 (of_z w32 third.result.value) ≡ third.result.value = search rules in
-    let s : to_z w32 (of_z w32 fourth.result.value) ≡ fourth.result.value = search rules in
-    (λ i. record {
-      present = first.result.present ∷ second.result.present ∷ third.result.present ∷ fourth.result.present ∷ [];
-      values = p i ∷ q i ∷ r i ∷ s i ∷ [];
-    })
-    ∙ row-converted c.args.y first.result second.result third.result fourth.result (length-four c.before.before.before.before.before.before.before.before.before.before.before.before)
-    first.ensures second.ensures third.ensures fourth.ensures
+    let y = c.args.y in
+    let counts = c.map-counts in
+    let converts : counts.result ≡ map converted y = mapped _ converted _ y counts.result 4 Missing (search rules) counts.ensures.items (λ p x r q k. k.met) in
+    let marks : c.map.result ≡ map is_some counts.result = mapped _ is_some _ counts.result c.map.result 4 None counts.ensures.items.long c.map.ensures.items (λ p x r q k. search rules) in
+    let values : c.map-2.result ≡ map (λ x. unwrap_or x (pos 0)) counts.result =
+    mapped _ (λ x. unwrap_or x (pos 0)) _ counts.result c.map-2.result 4 None counts.ensures.items.long c.map-2.ensures.items (λ p x r q k. search rules) in
+    row-of y counts.result c.map.result c.map-2.result converts marks values

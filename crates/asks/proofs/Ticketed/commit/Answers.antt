@@ -7,11 +7,10 @@ use Rattle.asks.specs.Asking.{tickets_of}
 use Rattle.asks.proofs.CommitLaws.{commit-refuses, commit-makes}
 use Rattle.asks.proofs.Ticketed.commit.Goals as goal
 
-pub returns-then-not-commits : goal.returns-then-not-commits
-returns-then-not-commits c =
+pub returns-then-not-commits-clause-answer : goal.returns-then-not-commits-clause-answer
+returns-then-not-commits-clause-answer c =
     let a = c.args in
-    let r = commit-refuses a.self a.ticket (sym c.commits.ensures ∙ c.if-not-commits.true) in
-    record { answer = r.0; ticketed = r.1 }
+    (commit-refuses a.self a.ticket (sym c.commits.ensures ∙ c.if-not-commits.true)).0
 
 pub returns : goal.returns
 returns c =

@@ -29,7 +29,7 @@ returns c =
     let second = length-first m y.values (omega (arith, four, c.requires.1)) in
     let length = c.state_length.result in
     let here = c.state_length.ensures in
-    let marked = c.put_byte.ensures ∙ ap (λ (k : ℕ). put c.put_values.new.area (at + length) (k ∷ [])) c.marks_byte.ensures in
+    let marked = c.put_bytes.ensures ∙ ap (λ (k : ℕ). put c.put_values.new.area (at + length) (k ∷ [])) c.marks_byte.ensures in
     then-put l _ _ at (at + length + 1) (values_bytes (take n x) ++ (marks_byte y ∷ [])) (values_bytes (take m y.values))
     (then-put l _ _ at (at + length) (values_bytes (take n x)) (marks_byte y ∷ [])
     (rw sub-zero at c.put_values.ensures) marked (omega (arith, first, here)) (omega (arith, here, c.requires)))

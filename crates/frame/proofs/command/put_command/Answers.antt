@@ -13,6 +13,7 @@ use Rattle.frame.specs.Command.{command_bytes}
 use Rattle.octets.proofs.Numbers.{length-little_endian}
 use Rattle.octets.proofs.Areas.{then-put}
 use Rattle.octets.proofs.ValueLists.{length-first}
+use Rattle.estimate.proofs.PresentMarks.{bit-is}
 use borrow.Author.Rules.{rules}
 use Rattle.frame.proofs.command.put_command.Goals as goal
 
@@ -20,8 +21,8 @@ pub returns : goal.returns
 unfolding command_bytes
 returns c =
     let four : length c.args.values ≡ 4 = search rules in
-    let first : c.put_4.new.area ≡ put c.args.area.now 0 (5 ∷ c.args.p ∷ bit c.args.limited ∷ 0 ∷ []) =
-    c.put_4.ensures ∙ ap (λ (k : ℕ). put c.args.area.now 0 (5 ∷ c.args.p ∷ k ∷ 0 ∷ [])) c.bit_of.ensures.0 in
+    let first : c.put_bytes.new.area ≡ put c.args.area.now 0 (5 ∷ c.args.p ∷ bit c.args.limited ∷ 0 ∷ []) =
+    c.put_bytes.ensures ∙ ap (λ (k : ℕ). put c.args.area.now 0 (5 ∷ c.args.p ∷ k ∷ 0 ∷ [])) (c.from.ensures ∙ bit-is _) in
     let p = c.args.p in
     let values = c.args.values in
     let l = c.args.area.now in

@@ -20,7 +20,7 @@ returns c =
     (then-put l _ _ 0 12 _ _
     (then-put l _ _ 0 8 _ _
     (then-put l _ _ 0 4 _ _
-    (◌∙◌ {b = put l 0 (f.kind ∷ f.sender ∷ count.result ∷ 0 ∷ [])} c.put_4.ensures bytes)
+    (◌∙◌ {b = put l 0 (f.kind ∷ f.sender ∷ count.result ∷ 0 ∷ [])} c.put_bytes.ensures bytes)
     c.put_u32.ensures refl (omega arith))
     c.put_u32-2.ensures refl (omega arith))
     c.put_u32-3.ensures refl (omega arith))

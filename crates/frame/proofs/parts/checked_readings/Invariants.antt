@@ -1,8 +1,7 @@
 -- `frame::parts::checked_readings` meets its contract. The loop's invariant: the first j marks and values are taken, each of them stands as it may,
--- and the marks that are left are those from j on. The measure is what is left of m. Assumes nothing.
+-- and the marks that are left are those from j on. Assumes nothing.
 use mathlib.Core.Path.{◌≡◌}
 use mathlib.Core.Bool.{true, false}
-use Prim.Native.Nat.{◌-◌, ◌≤◌}
 use lib.ListN.{get_or, drop}
 use lib.IntN.{pos}
 use Rattle.lists.specs.Places.{filled}
@@ -15,11 +14,7 @@ use Rattle.frame.proofs.parts.checked_readings.Given as goal
 
 abbrev pub invariant-loop-j : goal.invariant-loop-j
 invariant-loop-j l =
-    (l.j ≤ l.m)
-    × (l.marks_left ≡ left l.j (marks_at l.part))
+    (l.marks_left ≡ left l.j (marks_at l.part))
     × (l.present ≡ filled false 4 l.j (λ i. get_or (marks_in (marks_at l.part)) i false))
     × (l.values ≡ filled (pos 0) 4 l.j (value_at (drop 1 l.part)))
     × (all_below l.j (stands l.m l.part) ≡ true)
-
-abbrev pub decreases-loop-j : goal.decreases-loop-j
-decreases-loop-j l = l.m - l.j

@@ -1,18 +1,16 @@
 -- `law::fixed::add_product` meets its contract. Assumes nothing.
-use lib.IntN.{◌+ℤ◌, ◌*ℤ◌}
-use mir.Syntax.{w64}
-use mir.Val.{SFits}
-use mir.Facts.{to_z-of_z}
+use Rattle.std.proofs.Common.{◌+ℤ◌, ◌*ℤ◌, w64, FitsSigned}
+use Rattle.std.proofs.Math.Facts.{to_z-of_z}
 use Rattle.law.proofs.Integers.{wide, widened, term_fits, total-fits}
 use Rattle.law.proofs.fixed.add_product.Goals as goal
 use Rattle.law.proofs.fixed.add_product.Lts as lts
 use Rattle.law.proofs.fixed.add_product.Reads as reads
 
 module _ (c : lts.Start reads.Pre reads.Post) where
-  product : SFits w64 (c.args.coefficient *ℤ c.args.x)
+  product : FitsSigned w64 (c.args.coefficient *ℤ c.args.x)
   product = term_fits c.args.total c.args.coefficient c.args.x c.requires.0 c.requires.1 c.ranges.x
 
-  total : SFits w64 (c.args.total +ℤ c.args.coefficient *ℤ c.args.x)
+  total : FitsSigned w64 (c.args.total +ℤ c.args.coefficient *ℤ c.args.x)
   total = total-fits c.args.total c.args.coefficient c.args.x c.requires.0 c.requires.1 c.ranges.x
 
 pub overflow_cast-result : goal.overflow_cast-result

@@ -1,5 +1,5 @@
 -- `law::fixed::clamp_i32` meets its contract. Assumes nothing.
-use mir.Facts.{to_z-of_z}
+use Rattle.std.proofs.Math.Facts.{to_z-of_z}
 use Rattle.law.specs.Fixed.{clamp, clamp_changes}
 use Rattle.law.proofs.fixed.clamp_i32.Goals as goal
 

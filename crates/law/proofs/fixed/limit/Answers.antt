@@ -1,10 +1,7 @@
 -- `law::fixed::limit` meets its contract. Assumes nothing.
-use mathlib.Core.Path.{◌≡◌}
-use mathlib.Core.Bool.{false}
-use lib.Signed.{lt_z}
-use mir.Syntax.{w32}
-use mir.Val.{SFits}
-use mir.Facts.{to_z-of_z}
+use Rattle.std.proofs.Common.{◌≡◌, false, w32, FitsSigned}
+use Rattle.std.proofs.Math.Facts.{to_z-of_z}
+use Rattle.std.specs.Int.Signed.{lt_z}
 use Rattle.lists.specs.Choice.{pick}
 use Rattle.law.specs.Fixed.{limited, limits_change}
 use Rattle.law.proofs.Integers.{wide, widened, between-fits}
@@ -18,7 +15,7 @@ not-below c = let f = c.ranges in simp (to_z-of_z, f.x, f.low, wide f.low) at c.
 not-above : (c : lts.Else2 reads.Pre reads.Post) → lt_z c.args.high c.args.x ≡ false
 not-above c = let f = c.ranges in simp (to_z-of_z, f.x, f.high, wide f.high) at c.if-high-x.false
 
-inside : (c : lts.Else2 reads.Pre reads.Post) → SFits w32 c.args.x
+inside : (c : lts.Else2 reads.Pre reads.Post) → FitsSigned w32 c.args.x
 inside c =
     let a = c.args in
     let f = c.ranges in

@@ -1,14 +1,9 @@
 -- `law::fixed::sum_of_products` meets its contract: the total after each product is the sum of as many, and no larger than as many of the largest.
 -- Assumes nothing.
-use mathlib.Core.Path.{◌≡◌, refl, sym, ap, ◌∙◌, subst}
-use mathlib.Core.Bool.{true}
-use Prim.Native.Nat.{ℕ, ◌+◌, ◌*◌, ◌≤◌, ◌<◌}
-use native.Mathlib.Omega.{arith}
-use lib.Dec.{lit<}
-use lib.IntN.{ℤ, pos, nat_abs, ◌+ℤ◌, ◌*ℤ◌}
-use mir.Syntax.{w32, w64}
-use mir.Val.{SFits, to_z, of_z}
-use mir.Facts.{to_z-of_z}
+use Rattle.std.proofs.Common.{◌≡◌, refl, sym, ap, ◌∙◌, subst, true, ℕ, ◌+◌, ◌*◌, ◌≤◌, ◌<◌, arith, ℤ, pos, ◌+ℤ◌, ◌*ℤ◌, w32, w64, FitsSigned, to_z, of_z}
+use Rattle.std.proofs.Math.Dec.{lit<}
+use Rattle.std.proofs.Math.IntN.{nat_abs}
+use Rattle.std.proofs.Math.Facts.{to_z-of_z}
 use Rattle.lists.specs.Places.{entry}
 use Rattle.lists.proofs.Below.{all-at}
 use Rattle.law.specs.Fixed.{sum, largest_product}
@@ -42,7 +37,7 @@ module _ (s : lts.Start tie.the-claims reads.Pre reads.Post tie.handed_clauses) 
   none = record { is = sym (sum-none term); size = omega arith }
 
   -- one product more
-  more : (k : ℕ) (a total next : ℤ) → Total k total → k < s.args.n → a ≡ coefficient k → SFits w64 total → SFits w32 a → SFits w32 (value k)
+  more : (k : ℕ) (a total next : ℤ) → Total k total → k < s.args.n → a ≡ coefficient k → FitsSigned w64 total → FitsSigned w32 a → FitsSigned w32 (value k)
       → next ≡ to_z w64 (of_z w64 total) +ℤ to_z w32 (of_z w32 a) *ℤ to_z w32 (of_z w32 (value k)) → Total (k + 1) next
   more k a total next t l here ft fc fv e =
       let e' : next ≡ total +ℤ term k = simp (to_z-of_z, ft, fc, fv) at e ∙ ap (λ (z : ℤ). total +ℤ z *ℤ value k) here in
@@ -53,7 +48,7 @@ module _ (s : lts.Start tie.the-claims reads.Pre reads.Post tie.handed_clauses) 
       }
 
   -- the total that is returned
-  whole : (k : ℕ) (total : ℤ) → Total k total → k ≡ s.args.n → SFits w64 total
+  whole : (k : ℕ) (total : ℤ) → Total k total → k ≡ s.args.n → FitsSigned w64 total
       → (to_z w64 (of_z w64 total) ≡ sum s.args.n term) × (nat_abs (to_z w64 (of_z w64 total)) ≤ s.args.n * largest_product)
   whole k total t e fits = rw (to_z-of_z fits) (subst (λ (n : ℕ). (total ≡ sum n term) × (nat_abs total ≤ n * largest_product)) e (t.is, t.size))
 

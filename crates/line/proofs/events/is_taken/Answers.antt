@@ -1,36 +1,25 @@
 -- `events::is_taken` meets its contract. Assumes nothing.
-use mathlib.Core.Path.{sym, ap}
+use Rattle.std.proofs.Common.{◌≡◌, ℕ, refl, false}
+use Rattle.std.proofs.Common.{inl, inr}
+use Rattle.line.specs.declared.events.Event.{Event}
+use Rattle.line.specs.declared.events.Event.TheVariants.{Tick, GiveUp, Deliver, Store, Return, Commit, StoreAsked, Bad}
 use Rattle.line.specs.Events.{is_taken}
 use Rattle.line.proofs.events.is_taken.Goals as goal
 
+untaken : (e : Event) → ((x : ℕ) → e ≡ Tick x → ⊥) → ((x : ℕ) → e ≡ GiveUp x → ⊥) → ((x y : ℕ) → e ≡ Deliver x y → ⊥) → false ≡ is_taken e
+unfolding is_taken
+untaken (Tick x) t g d = absurd (t x refl)
+untaken (GiveUp x) t g d = absurd (g x refl)
+untaken (Deliver x y) t g d = absurd (d x y refl)
+untaken (Store x) t g d = refl
+untaken (Return x y) t g d = refl
+untaken (Commit x y) t g d = refl
+untaken (StoreAsked x) t g d = refl
+untaken Bad t g d = refl
+
 pub returns-in-Tick : goal.returns-in-Tick
 unfolding is_taken
-returns-in-Tick c = ap is_taken (sym c.in-Tick.is)
+returns-in-Tick c = elim c.in-Tick.is [ inl w ↦ rw w.1 | inr s ↦ elim s [ inl w ↦ rw w.1 | inr w ↦ rw w.2 ] ]
 
-pub returns-in-GiveUp : goal.returns-in-GiveUp
-unfolding is_taken
-returns-in-GiveUp c = ap is_taken (sym c.in-GiveUp.is)
-
-pub returns-in-Deliver : goal.returns-in-Deliver
-unfolding is_taken
-returns-in-Deliver c = ap is_taken (sym c.in-Deliver.is)
-
-pub returns-in-Store : goal.returns-in-Store
-unfolding is_taken
-returns-in-Store c = ap is_taken (sym c.in-Store.is)
-
-pub returns-in-Return : goal.returns-in-Return
-unfolding is_taken
-returns-in-Return c = ap is_taken (sym c.in-Return.is)
-
-pub returns-in-Commit : goal.returns-in-Commit
-unfolding is_taken
-returns-in-Commit c = ap is_taken (sym c.in-Commit.is)
-
-pub returns-in-StoreAsked : goal.returns-in-StoreAsked
-unfolding is_taken
-returns-in-StoreAsked c = ap is_taken (sym c.in-StoreAsked.is)
-
-pub returns-in-Bad : goal.returns-in-Bad
-unfolding is_taken
-returns-in-Bad c = ap is_taken (sym c.in-Bad.is)
+pub returns-in_default : goal.returns-in_default
+returns-in_default c = untaken c.args.event c.in_default.not-Tick c.in_default.not-GiveUp c.in_default.not-Deliver

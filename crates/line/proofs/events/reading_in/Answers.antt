@@ -1,30 +1,21 @@
 -- `events::reading_in` meets its contract. Assumes nothing.
-use mathlib.Core.Path.{sym, ap, ◌∙◌}
-use mir.Syntax.{w32}
-use mir.Facts.{to_z-of_z}
-use Rattle.lists.proofs.Choice.{pick_true, pick-false}
-use Rattle.text.specs.Numbers.{is_whole, value_in}
+use Rattle.std.proofs.Common.{rules, sym, ap, ◌∙◌}
+use Rattle.std.proofs.Common.{w32}
+use Rattle.std.proofs.lemmas.Int.{to_z-of_z}
+use Rattle.lists.specs.Choice.{pick}
 use Rattle.transmitters.specs.declared.Reading.TheVariants.{Count}
 use Rattle.line.specs.Events.{reading_in}
 use Rattle.line.proofs.events.reading_in.Goals as goal
 
-pub returns-then-is_whole : goal.returns-then-is_whole
-unfolding reading_in
-returns-then-is_whole c =
-    let n = c.number_in-n.ensures in
-    let whole = sym (c.is_whole.ensures ∙ ap is_whole n) ∙ c.if-is_whole.true in
-    ap Count (to_z-of_z {w = w32} (record { sfits = c.value_of.type_inv }) ∙ c.value_of.ensures ∙ ap value_in n) ∙ sym (pick_true _ _ _ whole)
+pub returns-in-Some : goal.returns-in-Some
+unfolding reading_in pick
+returns-in-Some c =
+    rw (sym c.number_in.ensures ∙ c.in-Some.is) (ap Count (to_z-of_z w32 c.in-Some.n (record { sfits = search rules })))
 
 pub returns-then-of_rig : goal.returns-then-of_rig
-unfolding reading_in
-returns-then-of_rig c =
-    let n = c.number_in-n.ensures in
-    let whole = sym (c.is_whole.ensures ∙ ap is_whole n) ∙ c.if-is_whole.false in
-    c.single_in.ensures ∙ sym (pick-false _ _ _ whole ∙ pick_true _ _ _ c.if-of_rig.true)
+unfolding reading_in pick
+returns-then-of_rig c = rw (sym c.number_in.ensures ∙ c.in-None.is, c.if-of_rig.true) c.single_in.ensures
 
-pub returns : goal.returns
-unfolding reading_in
-returns c =
-    let n = c.number_in-n.ensures in
-    let whole = sym (c.is_whole.ensures ∙ ap is_whole n) ∙ c.if-is_whole.false in
-    sym (pick-false _ _ _ whole ∙ pick-false _ _ _ c.if-of_rig.false)
+pub returns-else-of_rig : goal.returns-else-of_rig
+unfolding reading_in pick
+returns-else-of_rig c = rw (sym c.number_in.ensures ∙ c.in-None.is, c.if-of_rig.false)

@@ -1,21 +1,14 @@
 -- `frames::frame_of` meets its contract. Assumes nothing.
-use mathlib.Core.Path.{◌≡◌}
-use Prim.Native.Nat.{◌+◌, ◌*◌, ◌-◌}
-use native.Mathlib.Omega.{arith}
+use Rattle.std.proofs.Common.{ap, ◌∙◌, ◌*◌, take, drop}
+use Rattle.lists.proofs.Parts.{to_the_end}
 use Rattle.line.specs.Frames.{frame_of}
-use Rattle.lists.proofs.Parts.{none-beyond, bytes_after}
+use Rattle.line.proofs.FrameLaws.{drop-least, take-least}
 use Rattle.line.proofs.frames.frame_of.Goals as goal
-
-pub returns-then-table-a : goal.returns-then-table-a
-unfolding frame_of
-returns-then-table-a c = let s = c.args in none-beyond s.table.now (69 * s.f) s.size c.if-table-a.true
-
-pub returns-then-table-a-2 : goal.returns-then-table-a-2
-unfolding frame_of
-returns-then-table-a-2 c = let s = c.args in bytes_after s.table.now (69 * s.f) s.size c.if-table-a-2.true
 
 pub returns : goal.returns
 unfolding frame_of
 returns c =
     let s = c.args in
-    let e : 69 * s.f + s.size - 69 * s.f ≡ s.size = omega arith in rw e
+    let rest = drop c.min-start.result s.table.now in
+    take-least _ s.size _ c.min.ensures
+    ∙ ap (take s.size) (to_the_end s.table.now c.min-start.result ∙ drop-least s.table.now (69 * s.f) _ c.min-start.ensures)

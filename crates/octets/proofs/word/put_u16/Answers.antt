@@ -1,13 +1,8 @@
--- `octets::word::put_u16` meets its contract: the remainders are the bytes of the number. Assumes nothing.
-use native.Mathlib.Omega.{arith}
-use lib.ListN.{length-set}
-use Rattle.octets.specs.Words.{little_endian}
-use Rattle.octets.proofs.Areas.{put_two}
+-- `octets::word::put_u16` meets its contract: the first two bytes of the number, by its remainders. Assumes nothing.
+use Rattle.std.proofs.Common.{◌∙◌, ap, take}
+use Rattle.octets.specs.Areas.{put}
+use Rattle.octets.proofs.Numbers.{two_bytes}
 use Rattle.octets.proofs.word.put_u16.Goals as goal
 
-pub bounds-area-at-2 : goal.bounds-area-at-2
-bounds-area-at-2 c = simp length-set (omega arith)
-
 pub returns : goal.returns
-unfolding little_endian
-returns c = put_two c.args.area.now c.args.at _ _ c.requires
+returns c = c.put_bytes.ensures ∙ ap (put c.args.area.now c.args.at) (ap (take 2) c.to_le_bytes.ensures ∙ two_bytes c.args.x)

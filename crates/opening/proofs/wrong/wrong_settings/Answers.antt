@@ -1,20 +1,13 @@
 -- `wrong::wrong_settings` meets its contract. Assumes nothing.
-use mathlib.Core.Path.{sym, ap, ◌∙◌}
-use Rattle.scram.specs.Answers.{answered}
-use Rattle.opening.proofs.WrongLaws.{settings-made, settings-refused, settings-never}
+use Rattle.std.proofs.Common.{ap, ◌∙◌}
+use Rattle.std.specs.Prelude.{option_map}
+use Rattle.opening.specs.declared.wrong.Wrong.TheVariants.{Refused}
+use Rattle.opening.specs.Wrong.{wrong_settings}
+use Rattle.opening.proofs.WrongLaws.{refused-by, mapped}
 use Rattle.opening.proofs.wrong.wrong_settings.Goals as goal
 
-pub returns-in-Done : goal.returns-in-Done
-returns-in-Done c =
-    settings-made c.args.settings
-    (sym c.make-made.ensures.answer ∙ ap answered c.in-Done.is)
-
-pub returns-in-Ignored : goal.returns-in-Ignored
-returns-in-Ignored c =
-    absurd (settings-never c.args.settings
-    (sym c.make-made.ensures.answer ∙ ap answered c.in-Ignored.is))
-
-pub returns-in-Refused : goal.returns-in-Refused
-returns-in-Refused c =
-    settings-refused c.args.settings _
-    (sym c.make-made.ensures.answer ∙ ap answered c.in-Refused.is)
+pub returns : goal.returns
+unfolding wrong_settings
+returns c =
+    mapped c.err.result c.map.result c.map.ensures.cases
+    ∙ ap (option_map Refused) (c.err.ensures.value ∙ refused-by c.args.settings c.make.result c.make.ensures.answer)

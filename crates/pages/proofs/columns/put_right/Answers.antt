@@ -5,5 +5,4 @@ use Rattle.pages.proofs.columns.put_right.Goals as goal
 
 pub returns : goal.returns
 unfolding right
-returns c =
-    then-puts (rw c.columns_left.ensures at c.put_spaces-at.ensures) c.put_word.ensures
+returns c = then-puts (rw c.saturating_sub.ensures at c.put_spaces-at.ensures) c.put_word.ensures

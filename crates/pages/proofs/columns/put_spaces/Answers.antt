@@ -1,21 +1,20 @@
--- `columns::put_spaces` meets its contract. The loop's invariant: i spaces were put. The measure is how many are left. Assumes nothing.
-use mathlib.Core.Path.{◌≡◌, refl}
+-- `columns::put_spaces` meets its contract. The loop's invariant: so many spaces were put. Assumes nothing.
+use mathlib.Core.Path.{◌≡◌}
 use lib.ListN.{replicate-append-replicate}
-use borrow.Author.Rules.{rules}
 use native.Mathlib.Omega.{arith}
 use Rattle.text.proofs.PrintingLaws.{then-puts, put-nothing, puts-same}
 use Rattle.pages.proofs.columns.put_spaces.Goals as goal
 
-pub loop-i-init : goal.loop-i-init
-loop-i-init c = (omega arith, refl, put-nothing _ _ _ c.at_most-end.ensures)
+pub loop-init : goal.loop-init
+loop-init c = put-nothing _ _ _ c.min-end.ensures
 
-pub loop-i-preserved : goal.loop-i-preserved
-loop-i-preserved c =
-    let l = c.loop-i in
-    (omega arith, search rules, puts-same (replicate-append-replicate l.i 1 32) (then-puts l.invariant.2 c.put_byte-end.ensures))
+pub loop-preserved : goal.loop-preserved
+loop-preserved c =
+    let l = c.loop in
+    puts-same (replicate-append-replicate l.counter 1 32) (then-puts l.invariant c.put_byte-end.ensures)
 
 pub returns : goal.returns
 returns c =
-    let l = c.loop-i in
-    let e : l.i ≡ c.args.n = omega arith in
-    rw e at l.invariant.2
+    let l = c.loop in
+    let e : l.counter ≡ c.args.n = omega arith in
+    rw e at l.invariant

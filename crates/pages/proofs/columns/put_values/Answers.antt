@@ -1,33 +1,28 @@
--- `columns::put_values` meets its contract. The loop's invariant: the first i numbers were put. The measure is how many are left. Assumes nothing.
-use mathlib.Core.Path.{◌≡◌, refl}
-use Prim.Native.Nat.{◌<◌}
-use lib.ListN.{length}
-use lib.Seq.{take-length}
+-- `columns::put_values` meets its contract. The loop's invariant: the numbers so far were put. Assumes nothing.
+use mathlib.Core.Path.{sym}
+use lib.Seq.{take_all}
 use mir.Syntax.{w32}
+use mir.Val.{SFits}
 use mir.ValLaws.{to_z-of_z}
-use borrow.Author.Rules.{rules}
 use native.Mathlib.Omega.{arith}
+use Rattle.std.proofs.Common.{rules}
 use Rattle.lists.specs.Places.{entry}
-use Rattle.text.proofs.PrintingLaws.{then-puts, put-nothing}
+use Rattle.text.proofs.PrintingLaws.{then-puts, put-nothing, puts-same}
 use Rattle.pages.specs.Line.{command_columns}
 use Rattle.pages.proofs.ColumnLaws.{columns-more}
 use Rattle.pages.proofs.columns.put_values.Goals as goal
 
-pub loop-i-init : goal.loop-i-init
+pub loop-z-init : goal.loop-z-init
 unfolding command_columns
-loop-i-init c = (omega arith, refl, put-nothing _ _ _ c.at_most-end.ensures)
+loop-z-init c = put-nothing _ _ _ c.min-end.ensures
 
-pub loop-i-preserved : goal.loop-i-preserved
-loop-i-preserved c =
-    let l = c.loop-i in
-    let s = c.args in
-    let h : l.i < length s.values.now = omega arith in
-    let back = to_z-of_z w32 (entry s.values.now l.i) (record { sfits = c.z-1.given }) in
-    (omega arith, search rules, rw (columns-more s.values.now l.i h) (then-puts l.invariant.2 (rw back at c.put_value-end.ensures)))
+pub loop-z-preserved : goal.loop-z-preserved
+loop-z-preserved c =
+    let l = c.loop-z in
+    let values = c.args.values.now in
+    let fits : SFits w32 (entry values l.z-index) = search rules in
+    puts-same (sym (columns-more values l.z-index (omega arith)))
+    (then-puts l.invariant (rw (to_z-of_z w32 (entry values l.z-index) fits) at c.put_value-end.ensures))
 
 pub returns : goal.returns
-returns c =
-    let l = c.loop-i in
-    let s = c.args in
-    let e : l.i ≡ length s.values.now = omega arith in
-    rw (e, take-length) at l.invariant.2
+returns c = let l = c.loop-z in rw (take_all l.z-index c.args.values.now (omega arith)) at l.invariant

@@ -1,14 +1,8 @@
--- `lines::put_lines` meets its contract. The loop's invariant: the first i lines were put. The measure is how many are left. Assumes nothing.
-use mathlib.Core.Path.{◌≡◌}
-use Prim.Native.Nat.{◌-◌, ◌≤◌}
-use lib.ListN.{length, take}
+-- `lines::put_lines` meets its contract. The loop's invariant: the lines so far were put. Assumes nothing.
+use lib.ListN.{take}
 use Rattle.text.specs.Printing.{Puts}
 use Rattle.pages.specs.Page.{page_bytes}
 use Rattle.pages.proofs.lines.put_lines.Given as goal
 
-abbrev pub invariant-loop-i : goal.invariant-loop-i
-invariant-loop-i l =
-    (l.i ≤ l.count) × (length l.text ≡ length l.initial.text) × (length l.lines ≡ 60) × Puts l.initial.text l.at (page_bytes l.p (take l.i l.lines)) l.end l.text
-
-abbrev pub decreases-loop-i : goal.decreases-loop-i
-decreases-loop-i l = l.count - l.i
+abbrev pub invariant-loop-entry : goal.invariant-loop-entry
+invariant-loop-entry l = Puts l.initial.text l.at (page_bytes l.p (take l.entry-index l.entries)) l.end l.text

@@ -1,5 +1,4 @@
--- `placing::place_words` meets its contract. The loop's invariant: what is held is the page of the entries from number i on. The measure is i.
--- Assumes nothing.
+-- `placing::place_words` meets its contract. The loop's invariant: what is held is the page of the entries from number i on. Assumes nothing.
 use mathlib.Core.Path.{◌≡◌, refl, sym, ap, ◌∙◌, subst}
 use mathlib.Core.Bool.{false}
 use mathlib.Core.List.{List}
@@ -17,29 +16,26 @@ use Rattle.pages.proofs.placing.place_words.Goals as goal
 pub loop-i-init : goal.loop-i-init
 loop-i-init c =
     let words = c.args.words.now in
-    (omega arith, subst (λ (l : List Entry). Holds c.nothing-placed.result l false) (sym (none-behind words (length words / 7) refl)) c.nothing-placed.ensures)
-
-pub entry_at-requires : goal.entry_at-requires
-entry_at-requires c = let l = c.loop-i in omega (arith, l.invariant.0)
+    subst (λ (l : List Entry). Holds c.nothing-placed.result l false) (sym (none-behind words (length words / 7) refl)) c.nothing-placed.ensures
 
 pub place-placed-requires : goal.place-placed-requires
 place-placed-requires c =
     let l = c.loop-i in
     let words = c.args.words.now in
-    (l.invariant.1.few, held-rises l.placed (first_entries (length words / 7 - l.i) (drop (7 * l.i) words)) l.invariant.1)
+    (l.invariant.few, held-rises l.placed (first_entries (length words / 7 - l.i) (drop (7 * l.i) words)) l.invariant)
 
 pub loop-i-preserved : goal.loop-i-preserved
 loop-i-preserved c =
     let l = c.loop-i in
     let words = c.args.words.now in
-    let h = holds-all l.placed c.place-placed.result c.entry_at.result (standing_from words l.i) l.invariant.1 c.place-placed.ensures in
+    let h = holds-all l.placed c.place-placed.result c.entry_at.result (standing_from words l.i) l.invariant c.place-placed.ensures in
     let e = ap (λ (q : Entry). Page·placed q (standing_from words l.i)) c.entry_at.ensures
-    ∙ sym (one-before words l.i c.loop-i-test.true l.invariant.0) in
-    (omega (arith, l.invariant.0), subst (λ (t : List Entry). Holds c.place-placed.result t false) e h)
+    ∙ sym (one-before words l.i (omega arith) (omega arith)) in
+    subst (λ (t : List Entry). Holds c.place-placed.result t false) e h
 
 pub returns : goal.returns
 returns c =
     let l = c.loop-i in
     let words = c.args.words.now in
     let e : l.i ≡ 0 = omega arith in
-    subst (λ (t : List Entry). Holds l.placed t false) (all-of-them words) (rw e at l.invariant.1)
+    subst (λ (t : List Entry). Holds l.placed t false) (all-of-them words) (rw e at l.invariant)

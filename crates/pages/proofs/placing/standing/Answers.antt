@@ -1,16 +1,17 @@
 -- `placing::standing` meets its contract. Assumes nothing.
+use mathlib.Core.Path.{sym, ◌∙◌}
 use Rattle.lists.specs.Choice.{pick}
 use Rattle.pages.specs.Page.{standing as Page·standing}
 use Rattle.pages.proofs.placing.standing.Goals as goal
 
-pub returns-then-first : goal.returns-then-first
+pub returns-in-Some : goal.returns-in-Some
 unfolding Page·standing pick
-returns-then-first c = rw c.if-first.true
+returns-in-Some c = rw c.in-Some.is
 
-pub returns-then-later : goal.returns-then-later
+pub returns-then-is_some : goal.returns-then-is_some
 unfolding Page·standing pick
-returns-then-later c = rw (c.if-first.false, c.if-later.true)
+returns-then-is_some c = rw (c.in-None.is, sym c.is_some.ensures ∙ c.if-is_some.true)
 
-pub returns-else-later : goal.returns-else-later
+pub returns-else-is_some : goal.returns-else-is_some
 unfolding Page·standing pick
-returns-else-later c = rw (c.if-first.false, c.if-later.false)
+returns-else-is_some c = rw (c.in-None.is, sym c.is_some.ensures ∙ c.if-is_some.false)

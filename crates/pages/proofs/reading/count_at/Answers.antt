@@ -9,5 +9,5 @@ pub returns : goal.returns
 unfolding count_at
 returns c =
     let s = c.args in
-    c.size_of.ensures
+    c.unwrap_or.ensures
     ∙ ap size_in (c.read_magnitude.ensures ∙ ap magnitude (c.unspaced.ensures ∙ ap unspaced (part-to s.line.now s.column 10)))

@@ -12,6 +12,6 @@ pub returns : goal.returns
 unfolding value_at
 returns c =
     let s = c.args in
-    to_z-of_z w32 c.value_of.result (record { sfits = c.value_of.type_inv })
-    ∙ c.value_of.ensures
+    to_z-of_z w32 c.unwrap_or.result (record { sfits = c.unwrap_or.type_inv })
+    ∙ c.unwrap_or.ensures
     ∙ ap value_in (c.number_in.ensures ∙ ap number_of (c.unspaced.ensures ∙ ap unspaced (part-to s.line.now (22 + 12 * s.j) 12)))

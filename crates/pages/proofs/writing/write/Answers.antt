@@ -2,11 +2,10 @@
 use mathlib.Core.Path.{◌≡◌, sym, ap, ◌∙◌}
 use mathlib.Core.Bool.{true}
 use native.Mathlib.Omega.{arith}
-use lib.ListN.{length, take}
+use lib.ListN.{length}
 use lib.Seq.{take_all}
 use borrow.Author.Tests.{ltb-false}
 use Rattle.text.proofs.PrintingLaws.{put_whole, puts-same}
-use Rattle.pages.specs.Answers.{number}
 use Rattle.pages.specs.Entries.{commands_ok, entries_of}
 use Rattle.pages.specs.Page.{on_page, page_bytes}
 use Rattle.pages.proofs.LineLaws.{page-length}
@@ -19,7 +18,7 @@ returns-then-not-commands_ok c =
     let a = c.args in
     let e = write-sizes a.p (entries_of a.words.now) a.area.now (sym c.commands_ok.ensures ∙ c.if-not-commands_ok.true) in
     let w = nothing_written a.p (entries_of a.words.now) a.area.now 1 e in
-    record { answer = ap number c.refused.ensures.0 ∙ sym e; count = c.refused.ensures.1 ∙ rw w; bytes = rw w }
+    record { answer = sym e; count = tt; bytes = rw w }
 
 pub returns-then-area-lt-PAGE : goal.returns-then-area-lt-PAGE
 returns-then-area-lt-PAGE c =
@@ -27,7 +26,7 @@ returns-then-area-lt-PAGE c =
     let a = c.args in
     let e = write-area a.p (entries_of a.words.now) a.area.now ok c.if-area-lt-PAGE.true in
     let w = nothing_written a.p (entries_of a.words.now) a.area.now 12 e in
-    record { answer = ap number c.refused-then-area-lt-PAGE.ensures.0 ∙ sym e; count = c.refused-then-area-lt-PAGE.ensures.1 ∙ rw w; bytes = rw w }
+    record { answer = sym e; count = tt; bytes = rw w }
 
 pub returns-then-placed : goal.returns-then-placed
 returns-then-placed c =
@@ -36,12 +35,13 @@ returns-then-placed c =
     let e = write-periods a.p (entries_of a.words.now) a.area.now ok c.if-area-lt-PAGE.false
     (sym (c.place_words-placed.ensures).more ∙ c.if-placed.true) in
     let w = nothing_written a.p (entries_of a.words.now) a.area.now 13 e in
-    record { answer = ap number c.refused-then-placed.ensures.0 ∙ sym e; count = c.refused-then-placed.ensures.1 ∙ rw w; bytes = rw w }
+    record { answer = sym e; count = tt; bytes = rw w }
 
-pub put_lines-length-requires : goal.put_lines-length-requires
-put_lines-length-requires c =
-    let ok : commands_ok c.args.p ≡ true = sym c.commands_ok.ensures ∙ c.if-not-commands_ok.false in
-    (commands-high _ ok, c.place_words-placed.ensures.few)
+pub entries-requires : goal.entries-requires
+entries-requires c = c.place_words-placed.ensures.few
+
+pub put_lines-requires : goal.put_lines-requires
+put_lines-requires c = commands-high _ (sym c.commands_ok.ensures ∙ c.if-not-commands_ok.false)
 
 pub returns : goal.returns
 returns c =
@@ -53,7 +53,7 @@ returns c =
     let e = write_done a.p all a.area.now ok c.if-area-lt-PAGE.false few in
     let w = page-written a.p all a.area.now e in
     let short = ltb-false 60 (length (on_page all)) few in
-    let whole : page_bytes a.p (take c.place_words-placed.result.page.count c.place_words-placed.result.page.lines) ≡ page_bytes a.p (on_page all) =
-    ap (page_bytes a.p) (h.lines ∙ take_all 60 (on_page all) short) in
-    let put = put_whole (omega (arith, page-length a.p (on_page all) (commands-high _ ok), short, c.if-area-lt-PAGE.false)) (puts-same whole c.put_lines-length.ensures) in
+    let whole : page_bytes a.p c.entries.result.now ≡ page_bytes a.p (on_page all) =
+    ap (page_bytes a.p) (c.entries.ensures ∙ h.lines ∙ take_all 60 (on_page all) short) in
+    let put = put_whole (omega (arith, page-length a.p (on_page all) (commands-high _ ok), short, c.if-area-lt-PAGE.false)) (puts-same whole c.put_lines.ensures) in
     record { answer = sym e; count = put.count ∙ rw w; bytes = put.bytes ∙ rw w }

@@ -27,4 +27,4 @@ returns c =
       fields,
       sym c.ten_ok.ensures ∙ c.if-not-ten_ok.false,
     )
-    (c.is_ticket.ensures ∙ ap is_ticket t)
+    (c.is_some.ensures ∙ ap is_ticket t)

@@ -6,4 +6,4 @@ use Rattle.printed.proofs.lines.is_counter.Goals as goal
 
 pub returns : goal.returns
 unfolding is_counter
-returns c = c.is_size.ensures ∙ ap is_size c.read_magnitude.ensures
+returns c = c.is_some.ensures ∙ ap is_size c.read_magnitude.ensures

@@ -1,10 +1,8 @@
 -- `lines::is_list` meets its contract. Assumes nothing.
 use mathlib.Core.Path.{ap, ◌∙◌}
-use mathlib.Core.Bool.{not}
-use Prim.Native.Nat.{ℕ}
-use lib.Dec.{eqb}
-use Rattle.printed.proofs.LineLaws.{list_counted}
+use Rattle.std.specs.Option.{is_some}
+use Rattle.printed.proofs.LineLaws.{list_some}
 use Rattle.printed.proofs.lines.is_list.Goals as goal
 
 pub returns : goal.returns
-returns c = ap (λ (n : ℕ). not (eqb n 0)) c.values_in-values.ensures.count ∙ list_counted _ _
+returns c = c.is_some.ensures ∙ ap is_some c.values_in.ensures ∙ list_some _ _

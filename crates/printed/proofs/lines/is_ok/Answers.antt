@@ -1,7 +1,10 @@
 -- `lines::is_ok` meets its contract. Assumes nothing.
+use mathlib.Core.Path.{ap, ◌∙◌}
+use Rattle.pages.specs.Reading.{same}
+use Rattle.pages.proofs.ReadingLaws.{same_equal}
 use Rattle.printed.specs.Lines.{is_ok}
 use Rattle.printed.proofs.lines.is_ok.Goals as goal
 
 pub returns : goal.returns
 unfolding is_ok
-returns c = c.same.ensures
+returns c = c.eq.ensures ∙ same_equal _ _ ∙ ap (same c.args.bytes.now) c.as_slice.ensures

@@ -1,15 +1,10 @@
--- `output::page_from` meets its contract. The loop's invariant: what is held is the page of the entries from number i on. The measure is i. Assumes
--- nothing.
+-- `output::page_from` meets its contract. The loop's invariant: what is held is the page of the entries from number i on. Assumes nothing.
 use mathlib.Core.Bool.{false}
-use Prim.Native.Nat.{◌≤◌}
-use lib.ListN.{take, drop}
+use lib.ListN.{drop}
 use Rattle.pages.specs.Page.{on_page}
 use Rattle.pages.specs.Placing.{Holds}
 use Rattle.printed.specs.Placing.{entries_from}
 use Rattle.printed.proofs.output.page_from.Given as goal
 
 abbrev pub invariant-loop-i : goal.invariant-loop-i
-invariant-loop-i l = (l.i ≤ l.count) × Holds l.placed (on_page (entries_from l.from (drop l.i (take l.count l.entries)))) false
-
-abbrev pub decreases-loop-i : goal.decreases-loop-i
-decreases-loop-i l = l.i
+invariant-loop-i l = Holds l.placed (on_page (entries_from l.from (drop l.i l.entries))) false

@@ -18,7 +18,10 @@ pub put_pages-length-requires : goal.put_pages-length-requires
 unfolding printed_in
 put_pages-length-requires c =
     let few : c.first_commands-p.result ≤ 4 = omega (arith, c.first_commands-p.ensures, first-few (lines_of most c.args.text.now)) in
-    (few, c.take_entries-taken.ensures.0)
+    few
+
+pub entries-requires : goal.entries-requires
+entries-requires c = c.take_entries-taken.ensures.0
 
 pub returns : goal.returns
 unfolding pages_output passed_over printed_in
@@ -33,7 +36,7 @@ returns c =
     ap (λ (t : List Entry). paged p 9 (on_page t)) taken.ensures.1
     ∙ ap (λ (n : ℕ). paged n 9 (on_page (entries_in n ls))) c.first_commands-p.ensures in
     let short = pages-room p taken.result.entries taken.result.count few taken.ensures.0 in
-    let put = put_whole (omega (arith, ap length same, room)) (puts-same same c.put_pages-length.ensures) in
+    let put = put_whole (omega (arith, ap length same, room)) (puts-same same (rw c.entries.ensures at c.put_pages-length.ensures)) in
     record {
       count = put.count;
       passed = c.count_passed.ensures ∙ ap (λ (n : ℕ). passed_in n ls) c.first_commands-p.ensures;

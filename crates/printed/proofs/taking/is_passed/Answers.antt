@@ -1,18 +1,17 @@
 -- `taking::is_passed` meets its contract. Assumes nothing.
 use mathlib.Core.Path.{ap}
 use mathlib.Core.Bool.{not}
-use borrow.Author.Tests.{not-true, not-false}
 use Rattle.printed.specs.Pages.{is_passed}
 use Rattle.printed.proofs.taking.is_passed.Goals as goal
 
-pub returns-then-printed : goal.returns-then-printed
+pub returns-in-Step : goal.returns-in-Step
 unfolding is_passed
-returns-then-printed c = rw c.if-printed.true
+returns-in-Step c = rw c.in-Step.is (ap not c.is_suited.ensures)
 
-pub returns-then-not-printed : goal.returns-then-not-printed
+pub returns-in-Foreign : goal.returns-in-Foreign
 unfolding is_passed
-returns-then-not-printed c = rw (c.if-printed.false, not-true c.args.printed.done c.if-not-printed.true)
+returns-in-Foreign c = rw c.in-Foreign.is
 
-pub returns : goal.returns
+pub returns-in-Other : goal.returns-in-Other
 unfolding is_passed
-returns c = rw (c.if-printed.false, not-false c.args.printed.done c.if-not-printed.false) (ap not c.is_suited.ensures)
+returns-in-Other c = rw c.in-Other.is

@@ -53,43 +53,24 @@ module _ (boxes : ℕ) (b : List ℕ) (mean : bytes_mean b ≡ true) where
         e ∙ sym (all-next (test boxes b) j ∙ ap (λ (t : Bool). all_below j (test boxes b) && t) (of-box j low high) ∙ and-true (all_below j (test boxes b)))
 
     -- and above the last
-    looked : j < 10 → boxes < j → eqb (bit_or bits (get_or b (514 + j) 0)) 0 ≡ all_below (j + 1) (test boxes b)
-    looked l high =
+    looked : 1 ≤ j → j < 10 → boxes < j → eqb (bit_or bits (get_or b (514 + j) 0)) 0 ≡ all_below (j + 1) (test boxes b)
+    looked low l high =
         or-zero bits (get_or b (514 + j) 0)
         ∙ ap₂ (λ (s t : Bool). s && t) e (sym (of_none j l (rw (le-leb 1 j (omega arith)) (lt-leb j boxes high))))
         ∙ sym (all-next (test boxes b) j)
 
-pub bounds-bytes-514 : goal.bounds-bytes-514
-bounds-bytes-514 c = omega arith
-
 pub loop-j-init : goal.loop-j-init
-loop-j-init c = (omega arith, omega arith, first c.args.boxes c.args.bytes.now c.requires.1)
-
-pub overflow_add-bits : goal.overflow_add-bits
-overflow_add-bits c = omega arith
-
-pub bounds-bytes-j : goal.bounds-bytes-j
-bounds-bytes-j c = omega arith
-
-pub overflow_add-j : goal.overflow_add-j
-overflow_add-j c = omega arith
-
-pub loop-j-smaller : goal.loop-j-smaller
-loop-j-smaller c = omega arith
+loop-j-init c = first c.args.boxes c.args.bytes.now c.requires.1
 
 pub loop-j-preserved : goal.loop-j-preserved
 loop-j-preserved c =
     let l = c.loop-j in
-    let e = l.invariant.2 in
-    let p = passed c.args.boxes c.args.bytes.now c.requires.1 l.j l.bits e in
-    let q = looked c.args.boxes c.args.bytes.now c.requires.1 l.j l.bits e in (
-      omega arith,
-      omega arith,
-      elim c.if-last-j.branch [
-        | then-last-j w ↦ ap (λ (x : ℕ). eqb x 0) w.bits-is ∙ q (omega arith) w.if-last-j.true
-        | else-last-j w ↦ ap (λ (x : ℕ). eqb x 0) w.bits-is ∙ p l.invariant.0 w.if-last-j.false
-      ],
-    )
+    let p = passed c.args.boxes c.args.bytes.now c.requires.1 l.j l.bits l.invariant in
+    let q = looked c.args.boxes c.args.bytes.now c.requires.1 l.j l.bits l.invariant in
+    elim c.if-last-j.branch [
+      | then-last-j w ↦ ap (λ (x : ℕ). eqb x 0) w.bits-is ∙ q (omega arith) (omega arith) w.if-last-j.true
+      | else-last-j w ↦ ap (λ (x : ℕ). eqb x 0) w.bits-is ∙ p (omega arith) w.if-last-j.false
+    ]
 
 pub returns : goal.returns
 unfolding heard_ok
@@ -97,4 +78,4 @@ returns c =
     let s = c.args in
     let l = c.loop-j in
     let done : l.j ≡ 10 = omega arith in
-    l.invariant.2 ∙ ap (λ (n : ℕ). all_below n (test s.boxes s.bytes.now)) done
+    l.invariant ∙ ap (λ (n : ℕ). all_below n (test s.boxes s.bytes.now)) done

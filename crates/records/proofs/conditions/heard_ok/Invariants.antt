@@ -2,7 +2,7 @@
 use mathlib.Core.Path.{◌≡◌}
 use mathlib.Core.Bool.{Bool, not, ◌||◌}
 use mathlib.Core.List.{List}
-use Prim.Native.Nat.{ℕ, ◌-◌, ◌≤◌}
+use Prim.Native.Nat.{ℕ}
 use lib.Dec.{eqb}
 use Rattle.lists.specs.Below.{all_below}
 use Rattle.scram.specs.Quorum.{among}
@@ -14,7 +14,4 @@ abbrev pub test : ℕ → List ℕ → ℕ → Bool
 test boxes b j = not (among (heard_at b 514) j) || is_box boxes j
 
 abbrev pub invariant-loop-j : goal.invariant-loop-j
-invariant-loop-j l = (1 ≤ l.j) × (l.j ≤ 10) × (eqb l.bits 0 ≡ all_below l.j (test l.boxes l.bytes))
-
-abbrev pub decreases-loop-j : goal.decreases-loop-j
-decreases-loop-j l = 10 - l.j
+invariant-loop-j l = eqb l.bits 0 ≡ all_below l.j (test l.boxes l.bytes)

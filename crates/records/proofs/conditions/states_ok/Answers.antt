@@ -1,4 +1,5 @@
 -- `records::conditions::states_ok` meets its contract. The loop's invariant: i is at least n, and the test holds of each place below i. Assumes nothing.
+use Rattle.std.proofs.Common.{rules, SFits, w32}
 use mathlib.Core.Path.{◌≡◌, sym, ◌∙◌}
 use mathlib.Core.Bool.{true, false}
 use mathlib.Core.List.{List}
@@ -30,31 +31,21 @@ fails n state i l z = rw (le-ltb i n l, z)
 pub loop-i-init : goal.loop-i-init
 loop-i-init c = let s = c.args in (omega arith, all_of (test s.n s.state) s.n (in_use s.n s.state))
 
-pub offset_bounds-state-i : goal.offset_bounds-state-i
-offset_bounds-state-i c = omega arith
-
-pub bounds-state-i : goal.bounds-state-i
-bounds-state-i c = omega arith
-
-pub returns-then-z-ne0 : goal.returns-then-z-ne0
+pub returns-then-state-i-ne0 : goal.returns-then-state-i-ne0
 unfolding states_ok
-returns-then-z-ne0 c =
+returns-then-state-i-ne0 c =
     let s = c.args in
     let l = c.loop-i in
-    let zero = sym (bits-zero (entry s.state l.i) (record { sfits = c.z-1.given })) ∙ ne_eqb _ 0 c.if-z-ne0.true in
+    let fits : SFits w32 (entry s.state l.i) = record { sfits = search rules } in
+    let zero = sym (bits-zero (entry s.state l.i) fits) ∙ ne_eqb _ 0 c.if-state-i-ne0.true in
     sym (one-fails (test s.n s.state) 6 l.i (omega arith) (fails s.n s.state l.i l.invariant.0 zero))
-
-pub overflow_add-i : goal.overflow_add-i
-overflow_add-i c = omega arith
-
-pub loop-i-smaller : goal.loop-i-smaller
-loop-i-smaller c = omega arith
 
 pub loop-i-preserved : goal.loop-i-preserved
 loop-i-preserved c =
     let s = c.args in
     let l = c.loop-i in
-    let zero = sym (bits-zero (entry s.state l.i) (record { sfits = c.z-1.given })) ∙ eq-eqb _ 0 c.if-z-ne0.false in
+    let fits : SFits w32 (entry s.state l.i) = record { sfits = search rules } in
+    let zero = sym (bits-zero (entry s.state l.i) fits) ∙ eq-eqb _ 0 c.if-state-i-ne0.false in
     (omega arith, all_more (test s.n s.state) l.i l.invariant.1 (passes s.n s.state l.i zero))
 
 pub returns : goal.returns

@@ -1,17 +1,13 @@
--- `records::held_part::put_heard` meets its contract. The loop's invariant: the bytes of the first j places stand in the area. The measure is the
--- number of places left. Assumes nothing.
-use mathlib.Core.Path.{◌≡◌, refl, ◌∙◌}
-use Prim.Native.Nat.{◌<◌}
-use native.Mathlib.Omega.{arith}
-use lib.ListN.{length, length-set}
+-- `records::held_part::put_heard` meets its contract. The loop's invariant: the bytes of the first places stand in the area. Assumes nothing.
+use Rattle.std.proofs.Common.{rules, ◌≡◌, refl, ◌∙◌, ◌<◌, length, arith}
+use lib.ListN.{length-set}
 use lib.Seq.{take_all}
-use borrow.Author.Rules.{rules}
 use Rattle.octets.proofs.Areas.{put-nothing}
-use Rattle.records.proofs.Heard.{heard-more}
+use Rattle.records.proofs.Heard.{heard-more, bit-from}
 use Rattle.records.proofs.held_part.put_heard.Goals as goal
 
 pub loop-j-init : goal.loop-j-init
-loop-j-init c = (search rules, put-nothing c.args.area.now c.args.at, refl)
+loop-j-init c = (put-nothing c.args.area.now c.args.at, refl)
 
 pub loop-j-preserved : goal.loop-j-preserved
 loop-j-preserved c =
@@ -19,10 +15,9 @@ loop-j-preserved c =
     search rules in
     let l = c.loop-j in
     let h : l.j < 10 = omega arith in (
-      omega arith,
-      heard-more c.args.area.now l.area c.args.heard c.args.at l.j _ l.invariant.1 l.invariant.2 c.mark_byte.ensures
+      heard-more c.args.area.now l.area c.args.heard c.args.at l.j _ l.invariant.0 l.invariant.1 (c.from.ensures ∙ bit-from _)
           (omega (arith, ten)) (omega (arith, ten, c.requires)),
-      simp length-set l.invariant.2,
+      simp length-set l.invariant.1,
     )
 
 pub returns : goal.returns
@@ -30,4 +25,4 @@ returns c =
     let ten : length c.args.heard ≡ 10 =
     search rules in
     let l = c.loop-j in
-    l.invariant.1 ∙ rw (take_all l.j c.args.heard (omega (arith, ten)))
+    l.invariant.0 ∙ rw (take_all l.j c.args.heard (omega (arith, ten)))

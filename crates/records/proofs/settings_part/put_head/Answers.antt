@@ -10,7 +10,7 @@ unfolding head_bytes
 returns c =
     let g = c.args.settings in
     then-put c.args.area.now _ _ 0 4 (letter ∷ version ∷ g.boxes ∷ g.own ∷ []) (g.law.n ∷ g.law.m ∷ g.law.p ∷ quorums_byte g.quorums ∷ [])
-    c.put_4.ensures
-    (rw c.quorums_byte-quorums.ensures at c.put_4-2.ensures)
+    c.put_bytes.ensures
+    (rw c.quorums_byte-quorums.ensures at c.put_bytes-2.ensures)
     refl
     c.requires.0

@@ -1,13 +1,8 @@
 -- `tick` meets its contract. Assumes nothing.
-use lib.ListN.{length}
 use Rattle.replica.proofs.Gives.{gives-done}
-use Rattle.replica.proofs.Lent.{tick-outcome-lent}
 use Rattle.replica.proofs.Replica.tick.Goals as goal
 
 pub returns : goal.returns
 returns c =
     let a = c.args in
-    rw c.step_of.ensures
-    (gives-done a.self.settings
-    (rw (tick-outcome-lent a.self (length a.frame.now) (length a.command.now) _, c.convert_row-converted.ensures) at
-    (c.tick-given.ensures a.command.now)))
+    rw c.step_of.ensures (gives-done a.self.settings (rw c.convert_row-converted.ensures at (c.tick-given.ensures a.command.now)))

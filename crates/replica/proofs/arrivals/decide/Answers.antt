@@ -1,5 +1,5 @@
 -- `decide` meets its contract. Assumes nothing.
-use mathlib.Core.Path.{refl}
+use Rattle.std.proofs.Common.{refl}
 use Rattle.lists.specs.Choice.{pick}
 use Rattle.scram.specs.declared.Kind.TheVariants as Kind
 use Rattle.replica.proofs.Written.{kind_ok-number}

@@ -1,5 +1,5 @@
 -- `hear_ack` meets its contract. Assumes nothing.
-use mathlib.Core.Path.{sym, ◌∙◌}
+use Rattle.std.proofs.Common.{sym, ◌∙◌}
 use Rattle.scram.specs.Events.{hear_ack}
 use Rattle.replica.proofs.Gives.{says-done, says-true, says-false}
 use Rattle.replica.proofs.arrivals.hear_ack.Goals as goal

@@ -1,5 +1,5 @@
 -- `hear_estimate` meets its contract. Assumes nothing.
-use mathlib.Core.Path.{sym, ap, ◌∙◌}
+use Rattle.std.proofs.Common.{sym, ap, ◌∙◌}
 use Rattle.scram.specs.Events.{hearing, hear_estimate}
 use Rattle.replica.specs.Held.{best_in, held_in, held_of}
 use Rattle.replica.proofs.Gives.{says-done, says-true, says-false}

@@ -1,5 +1,5 @@
 -- `receive_decide` meets its contract. Assumes nothing.
-use mathlib.Core.Path.{refl}
+use Rattle.std.proofs.Common.{refl}
 use Rattle.lists.specs.Choice.{pick}
 use Rattle.scram.specs.Events.{receive}
 use Rattle.replica.proofs.arrivals.receive_decide.Goals as goal

@@ -1,12 +1,8 @@
 -- `receive_estimate` meets its contract. Assumes nothing.
-use native.Mathlib.Omega.{arith}
-use borrow.Author.Tests.{lt-ltb, le-ltb}
+use Rattle.std.proofs.Common.{lt-ltb, le-ltb}
 use Rattle.scram.specs.Events.{receive}
 use Rattle.replica.proofs.Gives.{says-true, says-false}
 use Rattle.replica.proofs.arrivals.receive_estimate.Goals as goal
-
-pub entered-requires : goal.entered-requires
-entered-requires c = let f = c.requires.0.own in omega (arith, f)
 
 pub returns-then-held-f : goal.returns-then-held-f
 unfolding receive

@@ -1,8 +1,5 @@
 -- `receive_propose` meets its contract. Assumes nothing.
-use mathlib.Core.Path.{refl, ap, ◌∙◌}
-use mathlib.Core.List.{List}
-use Prim.Native.Nat.{ℕ}
-use lib.ListN.{length}
+use Rattle.std.proofs.Common.{refl, ap, ◌∙◌, List, ℕ, length}
 use Rattle.lists.specs.Choice.{pick}
 use Rattle.octets.specs.Areas.{over}
 use Rattle.estimate.specs.declared.Estimate.{Estimate}
@@ -34,7 +31,7 @@ pub returns : goal.returns
 unfolding receive pick
 returns c =
     λ law.
-    let e = c.no_estimate-estimate.ensures in
+    let e = c.no_estimate.ensures in
     let bytes = ack c.args.member c.args.held.period c.args.f.view in record {
       answer = refl;
       held = c.adopting-next.ensures law;

@@ -1,65 +1,30 @@
 -- `checked::give_up` meets its contract. Assumes nothing.
-use mathlib.Core.Path.{◌≡◌, sym, ◌∙◌}
-use lib.ListN.{length}
-use Rattle.law.specs.Settings.{settings_of}
+use Rattle.std.proofs.Common.{length, sym}
 use Rattle.replica.specs.declared.Replica.{Replica}
-use Rattle.replica.specs.Calls.{step_refusal, give_up_outcome}
+use Rattle.replica.specs.Calls.{give_up_outcome}
 use Rattle.replica.proofs.Accepted.{fit}
 use Rattle.replica.proofs.Calls.{ready}
 use Rattle.replica.proofs.Gives.{checked-refuses, checked-does}
 use Rattle.replica.proofs.checked.give_up.Goals as goal
 
-pub returns-then-number-ne0 : goal.returns-then-number-ne0
-unfolding give_up_outcome
-returns-then-number-ne0 c =
-    λ area.
-    let a = c.args in
-    let given : Replica = record {
-      settings = record {
-        boxes = a.boxes;
-        own = a.own;
-        quorums = a.quorums;
-        law = settings_of a.n a.m a.p a.a.now a.l.now a.c.now a.k.now a.low.now a.high.now;
-      };
-      held = a.held;
-    } in
-    let number : c.step_refusal-number.result ≡ step_refusal given.settings (length a.frame.now) a.command =
-    c.step_refusal-number.ensures given.settings.law c.check-checked.ensures in
-    rw c.refused.ensures (checked-refuses given (length a.frame.now) a.command _ _ number c.if-number-ne0.true)
-
 pub give_up-requires : goal.give_up-requires
 give_up-requires c =
     let a = c.args in
-    let given : Replica = record {
-      settings = record {
-        boxes = a.boxes;
-        own = a.own;
-        quorums = a.quorums;
-        law = settings_of a.n a.m a.p a.a.now a.l.now a.c.now a.k.now a.low.now a.high.now;
-      };
-      held = a.held;
-    } in
-    let number : c.step_refusal-number.result ≡ step_refusal given.settings (length a.frame.now) a.command =
-    c.step_refusal-number.ensures given.settings.law c.check-checked.ensures in
-    let passed = sym number ∙ c.if-number-ne0.false in
-    let d = ready given.settings (length a.frame.now) a.command passed in
+    let d = ready a.settings.now (length a.frame.now) a.command (sym c.in-Ok.ensures) in
     (fit _ d.settings, d.frame-room)
 
-pub returns : goal.returns
+pub returns-in-Ok : goal.returns-in-Ok
 unfolding give_up_outcome
-returns c =
+returns-in-Ok c =
     λ area.
     let a = c.args in
-    let given : Replica = record {
-      settings = record {
-        boxes = a.boxes;
-        own = a.own;
-        quorums = a.quorums;
-        law = settings_of a.n a.m a.p a.a.now a.l.now a.c.now a.k.now a.low.now a.high.now;
-      };
-      held = a.held;
-    } in
-    let number : c.step_refusal-number.result ≡ step_refusal given.settings (length a.frame.now) a.command =
-    c.step_refusal-number.ensures given.settings.law c.check-checked.ensures in
-    let passed = sym number ∙ c.if-number-ne0.false in
-    checked-does given (length a.frame.now) a.command _ passed (c.give_up.ensures given.settings.law given.settings.law.p area)
+    let given : Replica = record { settings = a.settings.now; held = a.held } in
+    checked-does given (length a.frame.now) a.command _ (sym c.in-Ok.ensures) (c.give_up.ensures given.settings.law given.settings.law.p area)
+
+pub returns-in-Err : goal.returns-in-Err
+unfolding give_up_outcome
+returns-in-Err c =
+    λ area.
+    let a = c.args in
+    let given : Replica = record { settings = a.settings.now; held = a.held } in
+    rw c.refused.ensures (checked-refuses given (length a.frame.now) a.command _ c.in-Err.refusal c.in-Err.ensures)

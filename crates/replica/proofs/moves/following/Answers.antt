@@ -2,4 +2,4 @@
 use Rattle.replica.proofs.moves.following.Goals as goal
 
 pub returns : goal.returns
-returns c = λ law. rw (c.no_best-best.ensures law)
+returns c = λ law. rw (c.no_best.ensures law)

@@ -2,4 +2,4 @@
 use Rattle.replica.proofs.moves.proposing.Goals as goal
 
 pub returns : goal.returns
-returns c = λ law. rw (c.no_best-best.ensures law, c.only-acknowledged.ensures)
+returns c = λ law. rw (c.adopting.ensures law, c.only-acknowledged.ensures)

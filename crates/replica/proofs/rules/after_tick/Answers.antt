@@ -1,18 +1,12 @@
 -- `after_tick` meets its contract. Assumes nothing.
-use mathlib.Core.Path.{refl, sym, ◌∙◌}
+use Rattle.std.proofs.Common.{refl, sym, ◌∙◌}
 use Rattle.scram.specs.Events.{after_tick}
 use Rattle.replica.proofs.Gives.{says-done, says-true, says-false}
 use Rattle.replica.proofs.rules.after_tick.Goals as goal
 
-pub raise-requires : goal.raise-requires
-raise-requires c = (c.requires.0, c.requires.1, c.requires.2 c.if-held.true)
-
 pub returns-then-held : goal.returns-then-held
 unfolding after_tick
 returns-then-held c = λ law. says-true _ _ c.if-held.true (c.raise.ensures law)
-
-pub propose-requires : goal.propose-requires
-propose-requires c = (c.requires.0, c.requires.1)
 
 pub returns-then-leads : goal.returns-then-leads
 unfolding after_tick

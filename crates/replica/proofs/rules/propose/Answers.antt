@@ -1,13 +1,9 @@
 -- `propose` meets its contract. Assumes nothing.
-use mathlib.Core.Path.{refl}
-use native.Mathlib.Omega.{arith}
+use Rattle.std.proofs.Common.{refl}
 use Rattle.lists.specs.Choice.{pick}
 use Rattle.scram.specs.declared.Kind.TheVariants as Kind
 use Rattle.replica.proofs.Written.{kind_ok-number}
 use Rattle.replica.proofs.rules.propose.Goals as goal
-
-pub proposing-next-requires : goal.proposing-next-requires
-proposing-next-requires c = let f = c.requires.0.own in omega (arith, f)
 
 pub send-length-requires : goal.send-length-requires
 send-length-requires c = (c.requires.0.sizes, kind_ok-number Kind.Propose, c.requires.1)

@@ -1,12 +1,8 @@
 -- `raise` meets its contract. Assumes nothing.
-use mathlib.Core.Path.{sym, ◌∙◌}
-use native.Mathlib.Omega.{arith}
+use Rattle.std.proofs.Common.{sym, ◌∙◌}
 use Rattle.scram.specs.Events.{raise}
 use Rattle.replica.proofs.Gives.{says-done, says-true, says-false}
 use Rattle.replica.proofs.rules.raise.Goals as goal
-
-pub entered-next-requires : goal.entered-next-requires
-entered-next-requires c = let f = c.requires.0.own in omega (arith, f)
 
 pub returns-then-leads : goal.returns-then-leads
 unfolding raise

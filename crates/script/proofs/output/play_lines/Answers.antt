@@ -1,5 +1,4 @@
--- `output::play_lines` meets its contract. The loop's invariant: the first lines were played, and what is left of the text leads to the same. The
--- measure is the number of lines left. Assumes nothing.
+-- `output::play_lines` meets its contract. The loop's invariant: the first lines were played, and what is left of the text leads to the same. Assumes nothing.
 use mathlib.Core.Path.{◌≡◌, refl, sym, ◌∙◌}
 use Prim.Native.Nat.{◌-◌, ◌<◌}
 use lib.ListN.{length, drop}
@@ -51,10 +50,6 @@ overflow_add-at c =
     omega arith in
     omega (arith, short, c.line_end-stop.ensures.1)
 
-pub loop-number-smaller : goal.loop-number-smaller
-loop-number-smaller c =
-    omega (arith, c.loop-number-test.true)
-
 pub loop-number-preserved : goal.loop-number-preserved
 loop-number-preserved c =
     let l = c.loop-number in
@@ -63,9 +58,9 @@ loop-number-preserved c =
     let call = c.call_in-called in
     let line = c.line_end-stop in
     one_more a.of_rig a.boxes a.m a.start a.text.now a.output.now c.requires.2 _ _ _ _ _ _ _ _ l.invariant
-    line.result c.place_of-place.result call.result _ _ c.readings_of-readings.result
+    line.result c.place_of-place.result call.result _ _ call.result.readings
     c.loop-number-test.true (omega (arith, c.if-text-at.false))
-    line.ensures.2 line.ensures.3 call.ensures c.place_of-place.ensures.place c.place_of-place.ensures.bound refl c.readings_of-readings.ensures
+    line.ensures.2 line.ensures.3 call.ensures c.place_of-place.ensures.place c.place_of-place.ensures.bound refl refl
     t.auto.table t.auto.lengths t.auto.text t.ensures
 
 pub shape_of-table : goal.shape_of-table

@@ -39,7 +39,7 @@ returns c =
     ap₂ (λ (b : List Kept) (p : List ℕ). left b (replicate table_length 0) (replicate (most + 1) 0) p)
     c.fresh-kept.ensures w.text in
     let whole = ap₂ (λ (m : ℕ) (l : Left). (played a.of_rig a.settings.boxes m 0 l (lines_of most a.text.now)).printed)
-    c.at_most-m.ensures same in
+    c.min-m.ensures same in
     let p = c.play_lines.ensures in
     prints-same whole
     (prints-after _ _ _ header_line a.output.now _ _ h.ensures (omega

@@ -9,4 +9,4 @@ pub returns : goal.returns
 unfolding arriving
 returns c =
     let a = c.args in
-    c.frame_of.ensures ∙ ap (λ f. frame_of a.table.now f (get_or a.lengths.now f 0)) c.line_of-f.ensures
+    c.frame_of.ensures ∙ ap (λ f. frame_of a.table.now f (get_or a.lengths.now f 0)) c.line_of-line.ensures

@@ -3,6 +3,7 @@ use mathlib.Core.Path.{◌≡◌, ap, ◌∙◌}
 use lib.ListN.{length, take}
 use borrow.Author.Tests.{eq-eqb, ne_eqb}
 use Rattle.lists.specs.Choice.{pick}
+use native.Mathlib.Numerals.{unary_clauses}
 use Rattle.text.specs.Printing.{listed}
 use Rattle.script.specs.Printing.{command_word}
 use Rattle.text.proofs.PrintingLaws.{then-puts, puts-same, in_use}
@@ -23,7 +24,7 @@ returns c =
     search rules in
     let s = c.args in
     let v = c.command_values-values in
-    let u = c.at_most-n.ensures in
-    let same = ap listed (in_use v.result 4 s.p _ (four) u ∙ ap (take s.p) v.ensures) in
+    let u = c.min.ensures in
+    let same = ap listed ((simp unary_clauses at (in_use v.result 4 s.p _ four u)) ∙ ap (take s.p) v.ensures) in
     rw (ne_eqb _ _ c.if-size-eq0.false)
     (then-puts c.put_byte-at.ensures (then-puts (puts-same same c.put_list-at.ensures) c.put_star.ensures))

@@ -1,6 +1,7 @@
 -- `printing::put_state` meets its contract. Assumes nothing.
 use mathlib.Core.Path.{◌≡◌, ap}
 use lib.ListN.{length}
+use native.Mathlib.Numerals.{unary_clauses}
 use Rattle.text.specs.Printing.{listed}
 use Rattle.script.specs.Printing.{state_word}
 use Rattle.text.proofs.PrintingLaws.{then-puts, puts-same, in_use}
@@ -14,12 +15,10 @@ returns c =
     let six : length c.args.replica.held.estimate.state ≡ 6 =
     search rules in
     let s = c.args in
-    let u = c.at_most-n.ensures in (
+    let u = c.min-n.ensures in (
       then-puts c.put_byte-at.ensures
           (puts-same
-          (ap listed
-          (in_use s.replica.held.estimate.state 6 s.replica.settings.law.n _
-          (six) u))
+          (ap listed (simp unary_clauses at (in_use s.replica.held.estimate.state 6 s.replica.settings.law.n _ six u)))
           c.put_list.ensures),
       state-length s.replica (six),
     )

@@ -1,22 +1,12 @@
 -- `numbers::count_of` meets its contract. Assumes nothing.
-use mathlib.Core.Path.{sym, ap, ◌∙◌}
-use borrow.Author.Rules.{rules}
-use Rattle.text.specs.Numbers.{counted}
-use Rattle.text.proofs.NumberLaws.{counted-whole, counted-fits, counted-below}
+use Rattle.std.proofs.Common.{◌∙◌}
+use Rattle.std.proofs.Common.{FitsSigned, w32}
+use Rattle.std.proofs.lemmas.Int.{to_z-of_z}
+use Rattle.text.proofs.NumberLaws.{counted-from}
 use Rattle.text.proofs.numbers.count_of.Goals as goal
 
-pub overflow_cast-result : goal.overflow_cast-result
-overflow_cast-result c =
-    counted-fits c.in-Whole.z (record { sfits = search rules }) c.if-z-lt0.false
-
-pub returns-then-z-lt0 : goal.returns-then-z-lt0
-returns-then-z-lt0 c =
-    counted-below c.in-Whole.z (record { sfits = search rules }) c.if-z-lt0.true ∙ ap counted (sym c.in-Whole.is)
-
-pub returns-else-z-lt0 : goal.returns-else-z-lt0
-returns-else-z-lt0 c =
-    counted-whole c.in-Whole.z (record { sfits = search rules }) c.if-z-lt0.false ∙ ap counted (sym c.in-Whole.is)
-
-pub returns-in-Malformed : goal.returns-in-Malformed
-unfolding counted
-returns-in-Malformed c = ap counted (sym c.in-Malformed.is)
+pub returns : goal.returns
+returns c =
+    let s : FitsSigned w32 c.unwrap_or.result = record { sfits = c.unwrap_or.type_inv } in
+    c.unwrap_or-2.ensures
+    ∙ counted-from c.args.n c.try_from.result (rw (to_z-of_z w32 c.unwrap_or.result s, c.unwrap_or.ensures) at c.try_from.ensures) (rw c.unwrap_or.ensures at s)

@@ -1,13 +1,7 @@
--- `numbers::spell` meets its contract. The loop's invariant: what the digits spell is what those from i on spell after n. The measure is the
--- number of digits left. Assumes nothing.
-use mathlib.Core.Path.{◌≡◌}
-use Prim.Native.Nat.{◌-◌, ◌≤◌}
-use lib.ListN.{length, drop}
+-- `numbers::spell` meets its contract. The loop's invariant: what the digits spell is what those from the index on spell after n.
+use Rattle.std.proofs.Common.{◌≡◌, drop}
 use Rattle.text.specs.Numbers.{spelled}
 use Rattle.text.proofs.numbers.spell.Given as goal
 
-abbrev pub invariant-loop-i : goal.invariant-loop-i
-invariant-loop-i l = (l.i ≤ length l.digits) × (l.n ≤ 4294967295) × (spelled 0 l.digits ≡ spelled l.n (drop l.i l.digits))
-
-abbrev pub decreases-loop-i : goal.decreases-loop-i
-decreases-loop-i l = length l.digits - l.i
+abbrev pub invariant-loop-b : goal.invariant-loop-b
+invariant-loop-b l = spelled l.largest 0 l.digits ≡ spelled l.largest l.n (drop l.b-index l.digits)

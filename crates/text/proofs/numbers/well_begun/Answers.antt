@@ -1,28 +1,35 @@
 -- `numbers::well_begun` meets its contract. Assumes nothing.
-use mathlib.Core.Path.{◌≡◌}
-use Prim.Native.Nat.{◌<◌, ◌≤◌}
-use lib.ListN.{length, get_or}
+use Rattle.std.proofs.Common.{rules, arith, ◌≡◌, ◌≤◌, length, refl}
+use Rattle.std.proofs.Common.{get_or, Bool, true, false, ◌||◌}
 use borrow.Author.Tests.{le-ltb, lt-ltb, eq-eqb, ne_eqb}
-use native.Mathlib.Omega.{arith}
 use Rattle.text.specs.Numbers.{well_begun}
 use Rattle.text.proofs.numbers.well_begun.Goals as goal
 
-pub returns-then-digits-eq0 : goal.returns-then-digits-eq0
-unfolding well_begun
-returns-then-digits-eq0 c =
-    let h : length c.args.digits.now ≤ 0 = omega arith in
-    simp (le-ltb _ _ h)
+or-true : (t : Bool) → true ≡ (t || true)
+or-true true = refl
+or-true false = refl
 
-pub returns-then-digits-eq48 : goal.returns-then-digits-eq48
+pub returns-in-empty : goal.returns-in-empty
 unfolding well_begun
-returns-then-digits-eq48 c =
+returns-in-empty c = let h : length c.args.digits.now ≤ 0 = omega arith in simp (le-ltb _ _ h)
+
+pub returns-in-48 : goal.returns-in-48
+unfolding well_begun
+returns-in-48 c =
     let digits = c.args.digits.now in
-    let h : 0 < length digits = omega arith in
-    let zero : get_or digits 0 0 ≡ 48 = c.if-digits-eq48.true in
-    simp (lt-ltb _ _ h, eq-eqb _ _ zero)
+    let zero : get_or digits 0 0 ≡ 48 = search rules in
+    let many : length digits ≡ 1 → ⊥ = λ z. omega arith in
+    rw (eq-eqb _ _ zero, ne_eqb _ _ many, lt-ltb 0 (length digits) (omega arith))
 
-pub returns : goal.returns
+pub returns-in_default : goal.returns-in_default
 unfolding well_begun
-returns c =
-    let h : 0 < length c.args.digits.now = omega arith in
-    simp (lt-ltb _ _ h, ne_eqb _ _ c.if-digits-eq48.false)
+returns-in_default c =
+    let digits = c.args.digits.now in
+    rw (lt-ltb 0 (length digits) (omega arith), eq-eqb (length digits) 1 (omega arith)) (or-true _)
+
+pub returns-in_default-2 : goal.returns-in_default-2
+unfolding well_begun
+returns-in_default-2 c =
+    let digits = c.args.digits.now in
+    let other : get_or digits 0 0 ≡ 48 → ⊥ = search rules in
+    rw (ne_eqb _ _ other, lt-ltb 0 (length digits) (omega arith))

@@ -1,33 +1,20 @@
--- `printing::put_after_commas` meets its contract. The loop's invariant: the first i numbers were put. The measure is how many are left. Assumes
--- nothing.
-use mathlib.Core.Path.{◌≡◌, refl}
-use Prim.Native.Nat.{◌<◌}
-use lib.ListN.{length}
-use lib.Seq.{take-length}
-use mir.Syntax.{w32}
-use mir.ValLaws.{to_z-of_z}
-use borrow.Author.Rules.{rules}
-use native.Mathlib.Omega.{arith}
+-- `printing::put_after_commas` meets its contract. Assumes nothing.
+use Rattle.std.proofs.Common.{rules, arith, ◌<◌, length}
+use Rattle.std.proofs.Common.{w32, FitsSigned}
+use Rattle.std.proofs.lemmas.Int.{to_z-of_z}
 use Rattle.lists.specs.Places.{entry}
 use Rattle.text.specs.Printing.{after_commas}
 use Rattle.text.proofs.PrintingLaws.{then-puts, put-nothing, commas-more}
 use Rattle.text.proofs.printing.put_after_commas.Goals as goal
 
-pub loop-i-init : goal.loop-i-init
+pub loop-z-init : goal.loop-z-init
 unfolding after_commas
-loop-i-init c = (omega arith, refl, put-nothing _ _ _ c.at_most-end.ensures)
+loop-z-init c = put-nothing _ _ _ c.min-end.ensures
 
-pub loop-i-preserved : goal.loop-i-preserved
-loop-i-preserved c =
-    let l = c.loop-i in
-    let s = c.args in
-    let h : l.i < length s.values.now = omega arith in
-    let back = to_z-of_z w32 (entry s.values.now l.i) (record { sfits = c.z-1.given }) in
-    (omega arith, search rules, rw (commas-more s.values.now l.i h) (then-puts l.invariant.2 (rw back at c.put_next-end.ensures)))
-
-pub returns : goal.returns
-returns c =
-    let l = c.loop-i in
-    let s = c.args in
-    let e : l.i ≡ length s.values.now = omega arith in
-    rw (e, take-length) at l.invariant.2
+pub loop-z-preserved : goal.loop-z-preserved
+loop-z-preserved c =
+    let l = c.loop-z in
+    let values = c.args.values.now in
+    let h : l.z-index < length values = omega arith in
+    let fits : FitsSigned w32 (entry values l.z-index) = record { sfits = search rules } in
+    rw (commas-more values l.z-index h) (then-puts l.invariant (rw (to_z-of_z w32 (entry values l.z-index) fits) at c.put_next-end.ensures))

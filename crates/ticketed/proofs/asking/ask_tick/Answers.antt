@@ -4,7 +4,6 @@ use mathlib.Core.Bool.{true}
 use mathlib.Core.List.{List}
 use native.Mathlib.Omega.{arith}
 use lib.ListN.{length}
-use Rattle.lists.proofs.Choice.{pick_true}
 use Rattle.octets.specs.Words.{AllBytes}
 use Rattle.transmitters.specs.declared.Reading.{Reading}
 use Rattle.transmitters.specs.Conversion.{converted_row}
@@ -19,16 +18,16 @@ use Rattle.ticketed.proofs.Judged.{judged}
 use Rattle.ticketed.proofs.AskLaws.{asks-refused, ask-room, asked}
 use Rattle.ticketed.proofs.asking.ask_tick.Goals as goal
 
-pub returns-then-not-ok : goal.returns-then-not-ok
-returns-then-not-ok c =
+pub returns-in_default : goal.returns-in_default
+returns-in_default c =
     let a = c.args in
-    asks-refused a.replica.now a.area.now a.frame.now a.command.now _ _ (sym c.read-found.ensures.ok ∙ c.if-not-ok.true)
+    asks-refused a.replica.now a.area.now a.frame.now a.command.now _ _ (sym c.in_default.ensures.found)
     c.refused.ensures
 
 pub askable_in-ticketed-requires : goal.askable_in-ticketed-requires
 askable_in-ticketed-requires c =
     let is : is_ticketed c.args.replica.now ≡ true =
-    sym c.read-found.ensures.ok ∙ c.if-not-ok.false in
+    sym c.in-Some.ensures.found in
     (judged _ (is)).long
 
 pub note-requires : goal.note-requires
@@ -36,11 +35,11 @@ unfolding AllBytes
 note-requires c =
     let event : Replica → Outcomes = λ x. tick_outcome x (converted_row (readings_of c.args.kinds.now c.args.bits.now)) (length c.args.frame.now) (length c.args.command.now) in
     let is : is_ticketed c.args.replica.now ≡ true =
-    sym c.read-found.ensures.ok ∙ c.if-not-ok.false in
+    sym c.in-Some.ensures.found in
     let bytes : AllBytes c.args.replica.now =
     λ i. (c.slice_known-1.given i).fits in
-    let replica-read : c.read-found.result.replica ≡ (ticketed_in c.args.replica.now).replica =
-    c.read-found.ensures.replica ∙ pick_true _ _ _ (is) in
+    let replica-read : c.in-Some.before ≡ (ticketed_in c.args.replica.now).replica =
+    c.in-Some.ensures.replica in
     let same : let b = c.args.replica.now in c.askable_in-ticketed.result ≡ askable (ticketed_in b).replica (tickets_at b) =
     let b = c.args.replica.now in
     c.askable_in-ticketed.ensures ∙ ap (λ (r : Replica). askable r (tickets_at b)) (replica-read) in
@@ -64,11 +63,11 @@ unfolding AllBytes
 returns c =
     let event : Replica → Outcomes = λ x. tick_outcome x (converted_row (readings_of c.args.kinds.now c.args.bits.now)) (length c.args.frame.now) (length c.args.command.now) in
     let is : is_ticketed c.args.replica.now ≡ true =
-    sym c.read-found.ensures.ok ∙ c.if-not-ok.false in
+    sym c.in-Some.ensures.found in
     let bytes : AllBytes c.args.replica.now =
     λ i. (c.slice_known-1.given i).fits in
-    let replica-read : c.read-found.result.replica ≡ (ticketed_in c.args.replica.now).replica =
-    c.read-found.ensures.replica ∙ pick_true _ _ _ (is) in
+    let replica-read : c.in-Some.before ≡ (ticketed_in c.args.replica.now).replica =
+    c.in-Some.ensures.replica in
     let same : let b = c.args.replica.now in c.askable_in-ticketed.result ≡ askable (ticketed_in b).replica (tickets_at b) =
     let b = c.args.replica.now in
     c.askable_in-ticketed.ensures ∙ ap (λ (r : Replica). askable r (tickets_at b)) (replica-read) in

@@ -4,4 +4,4 @@ use Rattle.ticketed.proofs.committing.make_step.Goals as goal
 
 pub returns : goal.returns
 returns c =
-    step-made c.args.area.now _ _ _ c.requires c.copy.ensures c.copy-2.ensures c.put_byte.ensures
+    step-made c.args.area.now _ _ _ c.requires c.copy.ensures c.copy-2.ensures c.put_bytes.ensures

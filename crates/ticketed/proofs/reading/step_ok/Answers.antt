@@ -5,6 +5,7 @@ use Prim.Native.Nat.{ℕ}
 use lib.Dec.{eqb}
 use borrow.Author.Tests.{eq-eqb, ne_eqb}
 use Rattle.records.specs.Reading.{is_done, read_answer}
+use Rattle.records.proofs.Results.{done-ok}
 use Rattle.records.proofs.IsRecord.{read-is-done}
 use Rattle.ticketed.specs.TicketsPart.{tickets_at}
 use Rattle.ticketed.specs.Reading.{step_record}
@@ -25,8 +26,9 @@ pub returns : goal.returns
 unfolding tickets_at
 returns c =
     let b = c.args.area.now in
-    c.is_done.ensures
-    ∙ ap is_done c.read-parsed.ensures.answer
+    c.is_ok.ensures.value
+    ∙ sym (done-ok c.read.result)
+    ∙ ap is_done c.read.ensures.answer
     ∙ ap (λ (l : List ℕ). is_done (read_answer l)) c.step_record-bytes.ensures
     ∙ read-is-done (step_record b)
     ∙ step-judged b (eq-eqb _ _ c.if-area-ne1.false) (ap (λ (x : ℕ). eqb x 0) (sym c.u64_at.ensures) ∙ ne_eqb _ _ c.if-u64_at-eq0.false)

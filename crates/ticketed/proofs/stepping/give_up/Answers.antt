@@ -1,9 +1,8 @@
 -- `ticketed::stepping::give_up` meets its contract. Assumes nothing.
-use mathlib.Core.Path.{◌≡◌, refl, sym, ◌∙◌}
+use mathlib.Core.Path.{◌≡◌, refl, sym}
 use mathlib.Core.Bool.{true}
 use lib.ListN.{length}
 use borrow.Author.Rules.{rules}
-use Rattle.lists.proofs.Choice.{pick_true}
 use Rattle.octets.specs.Words.{AllBytes}
 use Rattle.replica.specs.declared.Replica.{Replica}
 use Rattle.replica.specs.Calls.{Outcomes, give_up_outcome}
@@ -13,25 +12,25 @@ use Rattle.ticketed.proofs.Judged.{judged}
 use Rattle.ticketed.proofs.StepLaws.{steps-refused, stepped}
 use Rattle.ticketed.proofs.stepping.give_up.Goals as goal
 
-pub returns-then-not-ok : goal.returns-then-not-ok
-returns-then-not-ok c =
+pub returns-in_default : goal.returns-in_default
+returns-in_default c =
     let a = c.args in
-    steps-refused a.replica.now a.frame.now a.command.now _ _ (sym c.read-found.ensures.ok ∙ c.if-not-ok.true) c.refused.ensures
+    steps-refused a.replica.now a.frame.now a.command.now _ _ (sym c.in_default.ensures.found) c.refused.ensures
 
 pub step_of-requires : goal.step_of-requires
 step_of-requires c =
     let is : is_ticketed c.args.replica.now ≡ true =
-    sym c.read-found.ensures.ok ∙ c.if-not-ok.false in
+    sym c.in-Some.ensures.found in
     (judged _ is).long
 
 pub returns : goal.returns
 unfolding AllBytes
 returns c =
     let is : is_ticketed c.args.replica.now ≡ true =
-    sym c.read-found.ensures.ok ∙ c.if-not-ok.false in
+    sym c.in-Some.ensures.found in
     let bytes : AllBytes c.args.replica.now = search rules in
-    let replica-read : c.read-found.result.replica ≡ (ticketed_in c.args.replica.now).replica =
-    c.read-found.ensures.replica ∙ pick_true _ _ _ is in
+    let replica-read : c.in-Some.before ≡ (ticketed_in c.args.replica.now).replica =
+    c.in-Some.ensures.replica in
     let places : length c.give_up-stepped.result.replica.held.heard ≡ 10 =
     ten c.give_up-stepped.result.replica.held _ c.give_up-stepped.type_inv.1.1.1.0.1.1.1.0 in
     let a = c.args in

@@ -8,7 +8,7 @@ use Rattle.ticketed.proofs.stepping.leave.Goals as goal
 
 pub returns-then-is_done : goal.returns-then-is_done
 returns-then-is_done c =
-    c.put_byte.ensures
+    c.put_bytes.ensures
     ∙ ap (λ (l : List ℕ). put l 618 (0 ∷ [])) c.write.ensures.area
     ∙ sym (pick_true _ _ _ (sym c.is_done.ensures ∙ c.if-is_done.true))
 

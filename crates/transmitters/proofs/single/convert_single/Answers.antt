@@ -26,13 +26,13 @@ product c =
     ∙ ap (λ (m : ℕ). signed (negative (bits c)) (m * 256)) c.magnitude_of-magnitude.ensures
 
 pub returns-then-scale-gt142 : goal.returns-then-scale-gt142
-returns-then-scale-gt142 c = c.none.ensures ∙ sym (single-far _ (subst (λ (p : ℕ). 142 < p) c.scale_of-scale.ensures c.if-scale-gt142.true))
+returns-then-scale-gt142 c = sym (single-far _ (subst (λ (p : ℕ). 142 < p) c.scale_of-scale.ensures c.if-scale-gt142.true))
 
 pub overflow_mul-magnitude : goal.overflow_mul-magnitude
 overflow_mul-magnitude c = record { fits = omega (arith, magnitude-lt c.args.bits) }
 
-pub shifted-z-requires : goal.shifted-z-requires
-shifted-z-requires c =
+pub shifted-requires : goal.shifted-requires
+shifted-requires c =
     let m = magnitude (bits c) in
     subst (λ (x : ℤ). mag x < 4294967296) (sym (product c)) (signed-small (negative (bits c)) (m * 256) (omega (arith, magnitude-lt (bits c))))
 
@@ -42,7 +42,7 @@ returns c =
     let near : scale (bits c.before.before) ≤ 142 = omega arith in
     c.within_i32.ensures
     ∙ ap within_i32
-    (to_z-of_z {w = w64} (record { sfits = c.shifted-z.type_inv })
-    ∙ c.shifted-z.ensures
+    (to_z-of_z {w = w64} (record { sfits = c.shifted.type_inv })
+    ∙ c.shifted.ensures
     ∙ ap₂ (λ (x : ℤ) (k : ℕ). floor x (2 ^ (142 - k))) (product c.before.before) p)
     ∙ single-near (bits c.before.before) near

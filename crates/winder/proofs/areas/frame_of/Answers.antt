@@ -2,4 +2,4 @@
 use Rattle.winder.proofs.areas.frame_of.Goals as goal
 
 pub returns : goal.returns
-returns c = rw c.readings_of-readings.ensures
+returns c = rw c.readings_of.ensures

@@ -1,11 +1,7 @@
 -- `mark_byte` meets its contract. Assumes nothing.
-use Rattle.lists.specs.Choice.{pick}
+use Rattle.std.proofs.Common.{◌∙◌}
+use Rattle.records.proofs.Heard.{bit-from}
 use Rattle.winder.proofs.areas.mark_byte.Goals as goal
 
-pub returns-then-mark : goal.returns-then-mark
-unfolding pick
-returns-then-mark c = rw c.if-mark.true
-
-pub returns-else-mark : goal.returns-else-mark
-unfolding pick
-returns-else-mark c = rw c.if-mark.false
+pub returns : goal.returns
+returns c = c.from.ensures ∙ bit-from _

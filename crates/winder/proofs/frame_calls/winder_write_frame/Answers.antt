@@ -4,8 +4,8 @@ use mathlib.Core.List.{List}
 use Prim.Native.Nat.{ℕ}
 use lib.ListN.{length}
 use Rattle.frame.specs.declared.Frame.{Frame}
-use Rattle.octets.specs.Areas.{over}
 use Rattle.frame.specs.Writing.{write_refusal, written}
+use Rattle.refusal.proofs.Numbers.{number-not-0}
 use Rattle.winder.proofs.Refused.{done, refused}
 use Rattle.winder.proofs.frame_calls.winder_write_frame.Goals as goal
 
@@ -16,29 +16,13 @@ module _ (n m : ℕ) (area : List ℕ) {f g : Frame} (same : f ≡ g) where
   same_count : length (written n m f area) ≡ length (written n m g area)
   same_count = ap (λ (h : Frame). length (written n m h area)) same
 
-  same_area : over (written n m f area) area ≡ over (written n m g area) area
-  same_area = ap (λ (h : Frame). over (written n m h area) area) same
-
-pub returns-then-number-eq0 : goal.returns-then-number-eq0
-returns-then-number-eq0 c =
-    let start = c.args in
+pub returns-in-Ok-clause-length : goal.returns-in-Ok-clause-length
+returns-in-Ok-clause-length c =
+    let a = c.args in
     let g = c.frame_of-frame.ensures in
-    let w = c.write-written.ensures in
-    let answer = c.frame_number-number.ensures ∙ w.answer ∙ same-refusal start.n start.m start.area.now g in
-    record {
-      answer = answer;
-      area = w.bytes ∙ same_area start.n start.m start.area.now g;
-      length = w.count ∙ same_count start.n start.m start.area.now g ∙ done _ _ _ (sym answer ∙ c.if-number-eq0.true);
-    }
+    c.in-Ok.ensures.count ∙ same_count a.n a.m a.area.now g ∙ done _ _ _ (sym (c.in-Ok.ensures.answer ∙ same-refusal a.n a.m a.area.now g))
 
-pub returns-else-number-eq0 : goal.returns-else-number-eq0
-returns-else-number-eq0 c =
-    let start = c.args in
-    let g = c.frame_of-frame.ensures in
-    let w = c.write-written.ensures in
-    let answer = c.frame_number-number.ensures ∙ w.answer ∙ same-refusal start.n start.m start.area.now g in
-    record {
-      answer = answer;
-      area = w.bytes ∙ same_area start.n start.m start.area.now g;
-      length = refused _ _ _ (λ h. c.if-number-eq0.false (answer ∙ h));
-    }
+pub returns-in-Err-clause-length : goal.returns-in-Err-clause-length
+returns-in-Err-clause-length c =
+    let a = c.args in
+    refused _ _ _ (λ h. number-not-0 c.in-Err.refusal (c.in-Err.ensures.answer ∙ same-refusal a.n a.m a.area.now c.frame_of-frame.ensures ∙ h))

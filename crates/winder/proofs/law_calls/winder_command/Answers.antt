@@ -1,20 +1,18 @@
 -- `winder_command` meets its contract. Assumes nothing.
-use mathlib.Core.Path.{sym, ap, ◌∙◌}
+use Rattle.std.proofs.Common.{sym, ap, ◌∙◌}
 use Rattle.estimate.specs.Marks.{bit}
+use Rattle.refusal.proofs.Numbers.{number-not-0}
 use Rattle.winder.proofs.Refused.{done, refused}
 use Rattle.winder.proofs.law_calls.winder_command.Goals as goal
 
-pub returns-then-number-ne0 : goal.returns-then-number-ne0
-returns-then-number-ne0 c =
-    let answer = c.law_number-number.ensures ∙ c.command-commanded.ensures.answer in
-    record { answer = answer; commands = refused _ _ _ (λ h. c.if-number-ne0.true (answer ∙ h)); limited = refused _ _ _ (λ h. c.if-number-ne0.true (answer ∙ h)) }
+pub returns-in-Ok-clause-commands : goal.returns-in-Ok-clause-commands
+returns-in-Ok-clause-commands c = c.in-Ok.ensures.values ∙ done _ _ _ (sym c.in-Ok.ensures.answer)
 
-pub returns : goal.returns
-returns c =
-    let given = c.command-commanded.ensures in
-    let answer = sym c.if-number-ne0.false ∙ c.law_number-number.ensures ∙ given.answer in
-    record {
-      answer = answer;
-      commands = given.values ∙ done _ _ _ (sym answer);
-      limited = c.mark_byte.ensures ∙ ap bit given.limited ∙ done _ _ _ (sym answer);
-    }
+pub returns-in-Ok-clause-limited : goal.returns-in-Ok-clause-limited
+returns-in-Ok-clause-limited c = c.mark_byte.ensures ∙ ap bit c.in-Ok.ensures.limited ∙ done _ _ _ (sym c.in-Ok.ensures.answer)
+
+pub returns-in-Err-clause-commands : goal.returns-in-Err-clause-commands
+returns-in-Err-clause-commands c = refused _ _ _ (λ h. number-not-0 c.in-Err.refusal (c.in-Err.ensures.answer ∙ h))
+
+pub returns-in-Err-clause-limited : goal.returns-in-Err-clause-limited
+returns-in-Err-clause-limited c = refused _ _ _ (λ h. number-not-0 c.in-Err.refusal (c.in-Err.ensures.answer ∙ h))

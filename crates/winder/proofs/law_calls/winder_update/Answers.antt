@@ -1,27 +1,18 @@
 -- `winder_update` meets its contract. Assumes nothing.
-use mathlib.Core.Path.{sym, ap, ◌∙◌}
-use Rattle.law.specs.Law.{updated, update_limited}
+use Rattle.std.proofs.Common.{sym, ap, ◌∙◌}
 use Rattle.estimate.specs.Marks.{bit}
+use Rattle.law.specs.Law.{update_limited}
 use Rattle.law.proofs.Laws.{updated-refused}
+use Rattle.refusal.proofs.Numbers.{number-not-0}
 use Rattle.winder.proofs.Refused.{done, refused}
 use Rattle.winder.proofs.law_calls.winder_update.Goals as goal
 
-pub returns-then-number-ne0 : goal.returns-then-number-ne0
-returns-then-number-ne0 c =
-    let answer = c.law_number-number.ensures ∙ c.update-updated.ensures.answer in
-    record {
-      answer = answer;
-      state = updated-refused _ _ _ (λ h. c.if-number-ne0.true (answer ∙ h));
-      limited = refused _ _ _ (λ h. c.if-number-ne0.true (answer ∙ h));
-    }
+pub returns-in-Ok-clause-limited : goal.returns-in-Ok-clause-limited
+returns-in-Ok-clause-limited c =
+    c.mark_byte.ensures ∙ ap bit (c.in-Ok.ensures.limited ∙ ap (update_limited _ _) c.readings_of.ensures) ∙ done _ _ _ (sym c.in-Ok.ensures.answer)
 
-pub returns : goal.returns
-returns c =
-    let u = c.update-updated.ensures in
-    let readings = c.readings_of-readings.ensures in
-    let answer = sym c.if-number-ne0.false ∙ c.law_number-number.ensures ∙ u.answer in
-    record {
-      answer = answer;
-      state = u.state ∙ ap (updated _ _) readings;
-      limited = c.mark_byte.ensures ∙ ap bit (u.limited ∙ ap (update_limited _ _) readings) ∙ done _ _ _ (sym answer);
-    }
+pub returns-in-Err-clause-state : goal.returns-in-Err-clause-state
+returns-in-Err-clause-state c = updated-refused _ _ _ (λ h. number-not-0 c.in-Err.refusal (c.in-Err.ensures.answer ∙ h))
+
+pub returns-in-Err-clause-limited : goal.returns-in-Err-clause-limited
+returns-in-Err-clause-limited c = refused _ _ _ (λ h. number-not-0 c.in-Err.refusal (c.in-Err.ensures.answer ∙ h))

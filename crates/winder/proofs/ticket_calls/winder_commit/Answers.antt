@@ -7,4 +7,4 @@ use Rattle.winder.proofs.ticket_calls.winder_commit.Goals as goal
 pub returns : goal.returns
 returns c =
     let w = c.commit.ensures in
-    record { answer = c.replica_number.ensures ∙ ap number_of w.answer ∙ number-of _; replica = w.area }
+    record { answer = c.result_number.ensures ∙ ap number_of w.answer ∙ number-of _; replica = w.area }

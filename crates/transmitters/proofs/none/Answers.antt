@@ -1,6 +1,0 @@
--- `transmitters::none` meets its contract. Assumes nothing.
-use mathlib.Core.Path.{refl}
-use Rattle.transmitters.proofs.none.Goals as goal
-
-pub returns : goal.returns
-returns c = refl

@@ -1,21 +1,16 @@
 -- Laws of present marks: the byte and the four marks give each other, marks at or above m, and values under absent marks. Assumes nothing.
-use mathlib.Core.Path.{◌≡◌, refl, sym, ap, ap₂, ◌∙◌}
-use mathlib.Core.Bool.{Bool, true, false, ◌||◌, ◌&&◌}
+use mathlib.Core.Path.{◌≡◌, refl, sym, ap, ◌∙◌}
+use mathlib.Core.Bool.{Bool, true, false, ◌||◌}
 use mathlib.Core.List.{List, [], ◌∷◌}
 use Prim.Native.Nat.{ℕ, zero, suc, ◌+◌, ◌*◌, ◌/◌, ◌%◌, ◌^◌, ◌-◌, ◌≤◌, ◌<◌}
 use native.Mathlib.Omega.{arith}
-use lib.ListN.{length, get_or, drop, replicate, take}
+use lib.ListN.{length, get_or, drop, replicate}
 use lib.IntN.{ℤ, pos, negsuc}
 use lib.Dec.{eqb}
 use borrow.Author.Tests.{eq-eqb, ne_eqb, eqb-true, eqb-false, ltb-true, lt-ltb}
 use mir.Syntax.{w32}
 use mir.Val.{SFits, of_z, bool_byte}
 use Rattle.readings.specs.declared.Readings.{Readings}
-use Rattle.std.specs.List.{zip, list_all}
-use Rattle.std.proofs.lemmas.List.Folds.{list_all_more}
-use Rattle.std.proofs.lemmas.Slice.Zip.{get_or-zip, length-zip}
-use Rattle.lists.specs.Below.{all_below}
-use native.Mathlib.Numerals.{add-one}
 use Rattle.lists.specs.Choice.{pick}
 use Rattle.lists.specs.Places.{entry, filled}
 use Rattle.readings.specs.Readings.{present, value, normalised, any_mark, mark_beyond}
@@ -204,17 +199,3 @@ module _ (m : ℕ) (y : Readings) (m≤4 : m ≤ 4) where
       all_of _ m
       (λ j l. rw (filled_at false 4 m j (present y) l (omega arith), filled_at (pos 0) 4 m j (value y) l (omega arith))
       (read-zero (present y j) (entry y.values j)))
-
--- ---- values under absent marks, as the code goes through them
-
-pub all-zipped : (marks : List Bool) (values : List ℤ) (m : ℕ) → m ≤ length marks → m ≤ length values
-    → list_all (λ p. p.0 || is_zero p.1) (take m (zip marks values)) ≡ all_below m (λ j. get_or marks j false || is_zero (entry values j))
-unfolding all_below
-all-zipped marks values zero h k = refl
-all-zipped marks values (suc m) h k =
-    let test : Bool × ℤ → Bool = λ p. p.0 || is_zero p.1 in
-    let room : m < length (zip marks values) = rw length-zip (omega (arith, h, k)) in
-    rw (← add-one)
-    (list_all_more test (zip marks values) m (false, pos 0) room
-    ∙ ap₂ (λ (a b : Bool). a && b) (all-zipped marks values m (omega arith) (omega arith))
-    (ap test (get_or-zip marks values m (false, pos 0) (omega arith) (omega arith))))

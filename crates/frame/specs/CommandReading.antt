@@ -24,7 +24,7 @@ command_in p b = record { period = command_period b; values = filled (pos 0) 4 p
 unfoldable pub read_command_refusal : ℕ → List ℕ → ℕ
 read_command_refusal p b = first_of (refusal 2 (not (commands_ok p)) ∷ refusal 8 (not (is_command p b)) ∷ [])
 
--- the command of a refused call
+-- what stands for the command of a refused call, which gives none
 abbrev pub no_command : CommandFields
 no_command = record { period = 0; values = replicate 4 (pos 0); limited = false }
 

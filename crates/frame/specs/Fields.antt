@@ -16,7 +16,7 @@ pub record Typed (f : Frame) : Type 0 where
   pub base-period : f.base_period < 2 ^ 32
   pub estimate : TypedEstimate f.estimate
 
--- the frame of a refused call
+-- what stands for the frame of a refused call, which gives none
 abbrev pub blank : Frame
 blank = record { kind = 0; sender = 0; period = 0; view = 0; base_view = 0; base_period = 0; estimate = no_estimate }
 

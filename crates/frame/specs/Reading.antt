@@ -71,7 +71,7 @@ fields_in n m b = headed b (pick (has_parts (kind_in b)) (estimate_at n m b part
 unfoldable pub read_refusal : ℕ → ℕ → List ℕ → ℕ
 read_refusal n m b = first_of (refusal 2 (not (sizes_ok n m)) ∷ refusal 8 (not (is_frame n m b)) ∷ [])
 
--- the frame that is read; a refused call has a blank one
+-- the frame that is read; of a refused call, which gives none, a blank one
 unfoldable pub read_frame : ℕ → ℕ → List ℕ → Frame
 read_frame n m b = pick (eqb (read_refusal n m b) 0) (fields_in n m b) blank
 

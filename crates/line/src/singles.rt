@@ -6,6 +6,9 @@ ghost use Rattle.line.specs.Singles.{is_hex, hex_digit, all_hex, hex_from, singl
 use transmitters::Reading;
 use transmitters::numbers::single_of;
 
+// `f` and eight digits.
+const SINGLE: usize = 9;
+
 fn digit_of(b: u8) -> Option<u32>
     ensures { result ≡ pick (is_hex b) (Some (hex_digit b)) None }
 {
@@ -32,7 +35,7 @@ fn bits_in(digits: &[u8]) -> Option<u32>
 pub(crate) fn single_in(word: &[u8]) -> Reading
     ensures { result ≡ single_in word.now }
 {
-    if word.len() != 9 || word[0] != b'f' {
+    if word.len() != SINGLE || word[0] != b'f' {
         return Reading::Missing;
     }
     match bits_in(&word[1..]) {

@@ -1,6 +1,6 @@
 -- Entries: a period, the view in it, and a command or none. A caller hands them as words of 32 bits.
-use Rattle.std.specs.Prelude.{ℕ, zero, suc, ◌/◌, ◌<◌, ◌^◌, ◌≡◌, Bool, ◌&&◌, List, [], ◌∷◌, length, get_or, drop, Option, None, Some, IfSome, ℤ, pos, eqb, leb}
-use Rattle.std.specs.Option.{is_some, option_map}
+use Rattle.std.specs.Prelude.{ℕ, zero, suc, ◌/◌, ◌<◌, ◌^◌, ◌≡◌, Bool, ◌&&◌, List, [], ◌∷◌, length, get_or, drop, replicate, Option, None, Some, IfSome, ℤ, pos, eqb, leb}
+use Rattle.std.specs.Option.{is_some, option_map, unwrap_or}
 use Rattle.lists.specs.Choice.{pick}
 use Rattle.lists.specs.Places.{entry, filled}
 use Rattle.lists.specs.I32.{AllI32}
@@ -14,6 +14,14 @@ commands_ok p = leb 1 p && leb p 4
 -- an entry has a command
 abbrev pub decided : Entry → Bool
 decided e = is_some e.command
+
+-- the four values of an entry's command, 0 where there is none
+abbrev pub values_of : Entry → List ℤ
+values_of e = unwrap_or e.command (replicate 4 (pos 0))
+
+-- an entry by its parts: what stands in the values of one that is not decided is no command
+unfoldable pub entry_by : (period view : ℕ) (decided : Bool) (values : List ℤ) → Entry
+entry_by period view decided values = record { period = period; view = view; command = pick decided (Some values) None }
 
 -- an entry takes seven words: period, view, a mark that is 0 where there is no command, and four values in two's complement
 unfoldable pub command_of : List ℕ → Option (List ℤ)

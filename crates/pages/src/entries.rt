@@ -1,6 +1,6 @@
 // Entries, and the words that a caller hands them as.
 ghost use Rattle.std.specs.Prelude.{◌≡◌, ◌+◌, ◌≤◌, length, drop};
-ghost use Rattle.pages.specs.Entries.{commands_ok, command_of, entry_of, blank as Entries·blank};
+ghost use Rattle.pages.specs.Entries.{commands_ok, command_of, entry_of, entry_by, values_of, blank as Entries·blank};
 
 use octets::word::signed;
 
@@ -10,6 +10,28 @@ pub struct Entry {
     pub period: u32,
     pub view: u32,
     pub command: Option<[i32; 4]>,
+}
+
+impl Entry {
+    // The entry of a period, the view in it, whether the period is decided, and four values, which are the command where it is.
+    #[tactic(auto, unfolding(crate::specs::Entries::entry_by, lists::specs::Choice::pick))]
+    pub fn new(period: u32, view: u32, decided: bool, values: [i32; 4]) -> Self
+        ensures { result ≡ entry_by period view decided values }
+    {
+        let command = if decided { Some(values) } else { None };
+        Entry {
+            period,
+            view,
+            command,
+        }
+    }
+
+    // The four values of its command, 0 where there is none.
+    pub fn values(self) -> [i32; 4]
+        ensures { result ≡ values_of self }
+    {
+        self.command.unwrap_or([0; 4])
+    }
 }
 
 // The words that an entry takes.

@@ -91,22 +91,15 @@ impl Taken {
     }
 }
 
-// One line more.
-fn with_line(p: usize, taken: Taken, printed: Printed) -> Taken
-    requires { taken.count ≤ 500 }
-    ensures { (result.count ≤ taken.count + 1)
-        × (take result.count result.entries ≡ take taken.count taken.entries ++ with_entry (entry_on p printed) []) }
+// One line more. In place: by value all entries would be copied at each line.
+fn take_line(p: usize, taken: &mut Taken, printed: Printed)
+    requires { taken.old.count ≤ 500 }
+    ensures { (taken.new.count ≤ taken.old.count + 1)
+        × (take taken.new.count taken.new.entries ≡ take taken.old.count taken.old.entries ++ with_entry (entry_on p printed) []) }
 {
-    match entry_on(p, printed) {
-        None => taken,
-        Some(entry) => {
-            let mut entries = taken.entries;
-            entries[taken.count] = entry;
-            Taken {
-                entries,
-                count: taken.count + 1,
-            }
-        }
+    if let Some(entry) = entry_on(p, printed) {
+        taken.entries[taken.count] = entry;
+        taken.count += 1;
     }
 }
 
@@ -124,7 +117,7 @@ pub(crate) fn take_entries(p: usize, text: &[u8]) -> Taken
             return taken;
         }
         let stop = line_end(text, at);
-        taken = with_line(p, taken, line_in(&text[at..stop]));
+        take_line(p, &mut taken, line_in(&text[at..stop]));
         at = stop + 1;
     }
     taken

@@ -110,6 +110,6 @@ is_done (Refused number) = false
 abbrev pub read_answer : List ℕ → Answered
 read_answer b = pick (is_record b) Done (Refused 15)
 
--- the replica that is read; a refused call gives a blank one, which every step refuses by 1
+-- the replica that is read; of a refused call, which gives none, a blank one, which every step refuses by 1
 unfoldable pub read_replica : List ℕ → Replica
 read_replica b = pick (is_record b) (replica_in b) (fresh_of blank_settings)

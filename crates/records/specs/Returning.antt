@@ -45,7 +45,7 @@ misses_too_many k r = ltb most_missed k || passes_largest k r
 abbrev pub stay_answer : ℕ → Replica → Answered
 stay_answer k r = pick (misses_too_many k r) (Refused 16) Done
 
--- the replica that it gives: where it is refused, the one handed in
+-- the replica that is at hand then: where it is refused, the one handed in
 unfoldable pub stayed : ℕ → Replica → Replica
 stayed k r = pick (misses_too_many k r) r (stayed_up k r)
 
@@ -59,6 +59,6 @@ return_refusal k b = first_of (refusal 15 (not (is_record b)) ∷ refusal 16 (mi
 abbrev pub return_answer : ℕ → List ℕ → Answered
 return_answer k b = pick (eqb (return_refusal k b) 0) Done (Refused (return_refusal k b))
 
--- the replica that it gives; a refused call gives a blank one, which every step refuses by 1
+-- the replica that it gives; of a refused call, which gives none, a blank one, which every step refuses by 1
 unfoldable pub returned : ℕ → List ℕ → Replica
 returned k b = pick (eqb (return_refusal k b) 0) (stayed_up k (replica_in b)) (fresh_of blank_settings)

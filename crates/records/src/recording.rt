@@ -4,6 +4,7 @@ ghost use Rattle.octets.specs.Areas.{over};
 ghost use Rattle.refusal.specs.Numbers.{number_of};
 ghost use Rattle.scram.specs.Answers.{answered_of};
 ghost use Rattle.estimate.specs.Fields.{first_states, carried_estimate};
+ghost use Rattle.records.specs.Lengths.{record_length};
 ghost use Rattle.records.specs.Recording.{recorded_best, recorded_held, record_refusal, record_answer, recorded};
 
 use crate::held_part::put_held;
@@ -61,6 +62,17 @@ fn recorded_held(n: usize, m: usize, held: Held) -> Held
         estimate,
         best,
         ..held
+    }
+}
+
+// Copies a record to the start of an area: byte by byte, since the library's copy of a slice would ask a firmware for memmove, and of the C library
+// the archive calls memcpy and memset alone (include/winder.h).
+pub fn copy(stored: &[u8], area: &mut [u8])
+    requires { (length stored.now ≡ record_length) × (record_length ≤ length area.old) }
+    ensures { area.new ≡ over stored.now area.old }
+{
+    for j in 0..RECORD {
+        area[j] = stored[j];
     }
 }
 

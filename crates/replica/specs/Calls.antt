@@ -74,6 +74,6 @@ made_answer s = pick (eqb (settings_refusal s) 0) Done (Refused (settings_refusa
 abbrev pub fresh_of : Settings → Replica
 fresh_of s = record { settings = s; held = held_of (fresh (law_of s.law)) }
 
--- what making gives; "Making settings refuses without a replica": what is given then is one that every step refuses by 1
+-- what making gives; "Making settings refuses without a replica": what stands for it then is one that every step refuses by 1
 unfoldable pub made : Settings → Replica
 made s = pick (eqb (settings_refusal s) 0) (fresh_of s) (fresh_of blank_settings)

@@ -192,7 +192,8 @@ fn ignores(held: Held, kind: Kind, f: Frame) -> bool
         || scram::ignored::unwanted(kind, held.view, held.view_change, heard, f.view)
 }
 
-// A frame that was read: 9 to 11, then the grounds for ignoring, then its rule.
+// A frame that was read: 9 to 11, then the grounds for ignoring, then its rule. The tests of 9 to 11 stand side by side before the first is acted on, so that
+// an edit can exchange two of them and nothing else.
 fn arrive_frame(member: Member, held: Held, f: Frame, frame: &mut [u8]) -> Moved
     requires { Fit member × (longest_frame ≤ length frame.old) }
     ensures { (law : Law.Settings) → Says law member (Events.arrive (law_of law) (group_of member) member.own (held_in held) (message_of f))
@@ -200,13 +201,16 @@ fn arrive_frame(member: Member, held: Held, f: Frame, frame: &mut [u8]) -> Moved
 {
     let kind = kind_of(f.kind);
     let coordinator = scram::quorum::coordinator(member.boxes, f.view);
-    if scram::refusals::bad_sender(member.boxes, member.own, f.sender) {
+    let sender = scram::refusals::bad_sender(member.boxes, member.own, f.sender);
+    let place = scram::refusals::bad_place(kind, coordinator, member.own, f.sender);
+    let base = scram::refusals::bad_base(kind, f.period, f.view, f.base_view, f.base_period);
+    if sender {
         return refused_rule(held, Refusal::Sender);
     }
-    if scram::refusals::bad_place(kind, coordinator, member.own, f.sender) {
+    if place {
         return refused_rule(held, Refusal::Place);
     }
-    if scram::refusals::bad_base(kind, f.period, f.view, f.base_view, f.base_period) {
+    if base {
         return refused_rule(held, Refusal::Base);
     }
     if ignores(held, kind, f) {

@@ -1,17 +1,12 @@
 -- A page that is read, line by line as words.
-use Rattle.std.specs.Prelude.{ℕ, ℤ, ◌≡◌, List, [], ◌∷◌, length, get_or, replicate, pos}
-use Rattle.std.specs.Option.{unwrap_or}
+use Rattle.std.specs.Prelude.{ℕ, ◌≡◌, List, [], ◌∷◌, length, get_or}
 use Rattle.lists.specs.Places.{entry}
 use Rattle.octets.specs.Words.{twos_complement}
 use Rattle.estimate.specs.Marks.{bit}
 use Rattle.pages.specs.declared.entries.Entry.{Entry}
-use Rattle.pages.specs.Entries.{decided, blank}
+use Rattle.pages.specs.Entries.{decided, values_of, blank}
 use Rattle.pages.specs.Reading.{read_refusal, read_entries}
 use Rattle.winder.specs.Areas.{unless_refused}
-
--- the four values of an entry's command, 0 where there is none
-abbrev pub values_of : Entry → List ℤ
-values_of e = unwrap_or e.command (replicate 4 (pos 0))
 
 -- the seven words of an entry, as it is handed to writing
 unfoldable pub words_of : Entry → List ℕ

@@ -12,7 +12,7 @@ use winder::answers::refusal_number;
 fn words_of(entry: Entry) -> [u32; 7]
     ensures { result ≡ words_of entry }
 {
-    let command = entry.command.unwrap_or([0; 4]);
+    let command = entry.values();
     [
         entry.period,
         entry.view,

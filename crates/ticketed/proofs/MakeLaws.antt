@@ -5,7 +5,6 @@ use mathlib.Core.List.{List}
 use Prim.Native.Nat.{ℕ}
 use native.Mathlib.Omega.{arith}
 use lib.ListN.{length, set, replicate}
-use lib.Seq.{take_all}
 use lib.Dec.{eqb, ltb}
 use borrow.Author.Tests.{ltb-false}
 use Rattle.lists.specs.Choice.{pick}
@@ -54,15 +53,14 @@ module _ (b area : List ℕ) where
 
     -- the record, and the part behind it
     pub tickets-done : (area₁ area₂ : List ℕ) → length b ≡ record_length → ltb (length area) ticketed_length ≡ false
-        → area₁ ≡ put area 0 (part b 0 record_length) → area₂ ≡ put area₁ record_length (ticket_bytes fresh_tickets)
+        → area₁ ≡ over b area → area₂ ≡ put area₁ record_length (ticket_bytes fresh_tickets)
         → (Done ≡ answer_of (tickets_refusal b (length area))) × (area₂ ≡ over (with_tickets b (length area)) area)
     unfolding tickets_refusal with_tickets
     tickets-done area₁ area₂ long s e₁ e₂ =
         let z : tickets_refusal b (length area) ≡ 0 = first-fails 15 _ _ (ap not is) ∙ first-fails 5 _ _ s ∙ none-holds in
-        let done = ap (λ (x : ℕ). eqb x 0) z in
-        let whole = take_all record_length b (omega (arith, long)) in (
+        let done = ap (λ (x : ℕ). eqb x 0) z in (
           sym (pick_true _ _ _ done),
-          then-put area area₁ area₂ 0 record_length b (ticket_bytes fresh_tickets) (e₁ ∙ ap (put area 0) whole) e₂ (omega (arith, long))
+          then-put area area₁ area₂ 0 record_length b (ticket_bytes fresh_tickets) (e₁ ∙ sym (put_front area b)) e₂ (omega (arith, long))
               (omega (arith, fresh-length, ltb-false (length area) ticketed_length s))
               ∙ put_front area _
               ∙ sym (ap (λ (w : List ℕ). over w area) (pick_true _ _ _ done)),

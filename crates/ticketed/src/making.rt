@@ -9,7 +9,6 @@ ghost use Rattle.ticketed.specs.Calls.{answer_of, fresh_tickets, tickets_refusal
 
 use crate::lengths::{LETTER, TICKETED, TICKETS};
 use crate::words::copy;
-use records::lengths::RECORD;
 use records::reading::read;
 use refusal::Refusal;
 
@@ -33,7 +32,7 @@ pub fn with_tickets(stored: &[u8], area: &mut [u8]) -> Result<(), Refusal>
     if area.len() < TICKETED {
         return Err(Refusal::Area);
     }
-    copy(stored, 0, RECORD, area, 0);
+    records::recording::copy(stored, area);
     put_fresh(area);
     Ok(())
 }

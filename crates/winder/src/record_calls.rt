@@ -6,7 +6,7 @@ ghost use Rattle.winder.specs.ReplicaAreas.{recording_refusal, recording, return
 use crate::answers::{refusal_number, result_number};
 use records::lengths::RECORD;
 use records::reading::read;
-use records::recording::write;
+use records::recording::{copy, write};
 use records::returning::stay_up;
 use refusal::Refusal;
 
@@ -21,7 +21,7 @@ pub fn winder_record(replica: &[u8], area: &mut [u8]) -> u32
     if area.len() < RECORD {
         return refusal_number(Refusal::Area);
     }
-    area[..RECORD].copy_from_slice(replica);
+    copy(replica, area);
     0
 }
 

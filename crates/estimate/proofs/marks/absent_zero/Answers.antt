@@ -1,19 +1,42 @@
--- `estimate::marks::absent_zero` meets its contract: the first m marks and values pass the test. Assumes nothing.
-use Rattle.std.proofs.Common.{◌≡◌, ◌∙◌, ◌||◌, length, arith, rules}
-use borrow.Author.Tests.{tests}
-use Rattle.std.proofs.lemmas.Iterator.{YieldsList-from_slice, YieldsList-from_zip, YieldsList-from_take}
-use Rattle.std.proofs.lemmas.Iterator.Search.{all_from_yields_List}
+-- `estimate::marks::absent_zero` meets its contract. The loop's invariant: the test holds of each reading below j. Assumes nothing.
+use Rattle.std.proofs.Common.{◌≡◌, sym, ◌∙◌, ◌||◌, true, false, arith, w32, rules}
+use borrow.Author.Tests.{eq-eqb, ne_eqb}
+use mir.Val.{SFits}
+use Rattle.lists.specs.Places.{entry}
+use Rattle.lists.proofs.Below.{all_none, all_more, one-fails}
+use Rattle.readings.specs.Readings.{present}
 use Rattle.estimate.specs.Marks.{is_zero, absent_zero}
-use Rattle.estimate.proofs.PresentMarks.{all-zipped}
+use Rattle.estimate.proofs.PresentMarks.{bits-zero}
 use Rattle.estimate.proofs.marks.absent_zero.Goals as goal
+use Rattle.estimate.proofs.marks.absent_zero.Goals.{else-not-y-j-via-then-not-y-j+else-value-ne0, else-not-y-j-via-else-not-y-j}
+
+pub loop-j-init : goal.loop-j-init
+loop-j-init c = all_none _
+
+pub returns-then-value-ne0 : goal.returns-then-value-ne0
+unfolding absent_zero
+returns-then-value-ne0 c =
+    let a = c.args in
+    let l = c.loop-j in
+    let fits : SFits w32 (entry a.y.values l.j) = search rules in
+    let fails : present a.y l.j || is_zero (entry a.y.values l.j) ≡ false =
+    rw c.if-not-y-j.true (sym (bits-zero _ fits) ∙ ne_eqb _ 0 c.if-value-ne0.true) in
+    sym (one-fails (λ k. present a.y k || is_zero (entry a.y.values k)) a.m l.j (omega arith) fails)
+
+pub loop-j-preserved : goal.loop-j-preserved
+loop-j-preserved c =
+    let a = c.args in
+    let l = c.loop-j in
+    let fits : SFits w32 (entry a.y.values l.j) = search rules in
+    let holds : present a.y l.j || is_zero (entry a.y.values l.j) ≡ true =
+    elim c.else-not-y-j.branch [
+      | else-not-y-j-via-then-not-y-j+else-value-ne0 w ↦ rw w.if-not-y-j.true (sym (bits-zero _ fits) ∙ eq-eqb _ 0 w.if-value-ne0.false)
+      | else-not-y-j-via-else-not-y-j w ↦ rw w.if-not-y-j.false
+    ] in
+    all_more (λ k. present a.y k || is_zero (entry a.y.values k)) l.j l.invariant holds
 
 pub returns : goal.returns
 unfolding absent_zero
 returns c =
-    let y = c.args.y in
-    let marks : length y.present ≡ 4 = search rules in
-    let values : length y.values ≡ 4 = search rules in
-    all_from_yields_List (λ p. p.0 || is_zero p.1) c.all.new.self _ _ c.all.ensures.ran
-    (YieldsList-from_take c.args.m (YieldsList-from_zip (YieldsList-from_slice y.present cc) (YieldsList-from_slice y.values cc)) cc)
-    (λ x b q k. search (rules, tests))
-    ∙ all-zipped y.present y.values c.args.m (omega (arith, marks)) (omega (arith, values))
+    let e : c.loop-j.j ≡ c.args.m = omega arith in
+    sym (rw e at c.loop-j.invariant)

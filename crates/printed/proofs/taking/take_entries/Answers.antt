@@ -19,8 +19,8 @@ returns-then-text-at c =
     let a = c.args in
     (omega (arith, l.invariant.0), sym (entries_none a.p _ _ (left_end a.text.now l.at l.counter c.if-text-at.true)) ∙ l.invariant.1)
 
-pub with_line-taken-requires : goal.with_line-taken-requires
-with_line-taken-requires c = omega (arith, c.loop.invariant.0)
+pub take_line-requires : goal.take_line-requires
+take_line-requires c = omega (arith, c.loop.invariant.0)
 
 pub loop-preserved : goal.loop-preserved
 loop-preserved c =
@@ -32,8 +32,8 @@ loop-preserved c =
     let next : left text l.at l.counter ≡ line.result ∷ left text (stop.result + 1) (l.counter + 1) =
     left-next text l.at l.counter stop.result line.result (omega arith) (omega (arith, c.if-text-at.false)) stop.ensures.2 stop.ensures.3 line.ensures in
     let so_far = take l.taken.count l.taken.entries in (
-      omega (arith, l.invariant.0, c.with_line-taken.ensures.0),
-      entries-more a.p so_far _ line.result _ c.with_line-taken.ensures.1
+      omega (arith, l.invariant.0, c.take_line.ensures.0),
+      entries-more a.p so_far _ line.result _ c.take_line.ensures.1
           ∙ ap (λ (t : List Printed). so_far ++ entries_in a.p t) (sym next)
           ∙ l.invariant.1,
     )

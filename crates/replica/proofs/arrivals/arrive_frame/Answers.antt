@@ -16,33 +16,33 @@ base-by : (period view base_view base_period : ℕ) {k j : Kind} {r t : Bool} �
     → bad_base j period view base_view base_period ≡ t
 base-by period view base_view base_period e kind found = rw (sym kind) (sym e ∙ found)
 
-pub returns-then-bad_sender : goal.returns-then-bad_sender
+pub returns-then-sender : goal.returns-then-sender
 unfolding arrive
-returns-then-bad_sender c = λ law. says-true _ _ (sym c.bad_sender.ensures ∙ c.if-bad_sender.true) (rw c.refused_rule.ensures (says-refused _ _ _ _ Sender))
+returns-then-sender c = λ law. says-true _ _ (sym c.bad_sender-sender.ensures ∙ c.if-sender.true) (rw c.refused_rule.ensures (says-refused _ _ _ _ Sender))
 
-pub returns-then-bad_place : goal.returns-then-bad_place
+pub returns-then-place : goal.returns-then-place
 unfolding arrive
-returns-then-bad_place c =
+returns-then-place c =
     λ law.
     let a = c.args in
-    says-false _ _ (sym c.bad_sender.ensures ∙ c.if-bad_sender.false)
-    (says-true _ _ (place-by a.member.own a.f.sender c.bad_place.ensures c.kind_of-kind.ensures c.coordinator-coordinator.ensures c.if-bad_place.true)
-    (rw c.refused_rule-then-bad_place.ensures (says-refused _ _ _ _ Place)))
+    says-false _ _ (sym c.bad_sender-sender.ensures ∙ c.if-sender.false)
+    (says-true _ _ (place-by a.member.own a.f.sender c.bad_place-place.ensures c.kind_of-kind.ensures c.coordinator-coordinator.ensures c.if-place.true)
+    (rw c.refused_rule-then-place.ensures (says-refused _ _ _ _ Place)))
 
-pub returns-then-bad_base : goal.returns-then-bad_base
+pub returns-then-base : goal.returns-then-base
 unfolding arrive
-returns-then-bad_base c =
+returns-then-base c =
     λ law.
     let a = c.args in
     let f = a.f in
-    says-false _ _ (sym c.bad_sender.ensures ∙ c.if-bad_sender.false)
-    (says-false _ _ (place-by a.member.own f.sender c.bad_place.ensures c.kind_of-kind.ensures c.coordinator-coordinator.ensures c.if-bad_place.false)
-    (says-true _ _ (base-by f.period f.view f.base_view f.base_period c.bad_base.ensures c.kind_of-kind.ensures c.if-bad_base.true)
-    (rw c.refused_rule-then-bad_base.ensures (says-refused _ _ _ _ Base))))
+    says-false _ _ (sym c.bad_sender-sender.ensures ∙ c.if-sender.false)
+    (says-false _ _ (place-by a.member.own f.sender c.bad_place-place.ensures c.kind_of-kind.ensures c.coordinator-coordinator.ensures c.if-place.false)
+    (says-true _ _ (base-by f.period f.view f.base_view f.base_period c.bad_base-base.ensures c.kind_of-kind.ensures c.if-base.true)
+    (rw c.refused_rule-then-base.ensures (says-refused _ _ _ _ Base))))
 
 pub ignores-requires : goal.ignores-requires
 ignores-requires c =
-    (sender-place _ _ _ c.requires.0.boxes (sym c.bad_sender.ensures ∙ c.if-bad_sender.false), c.kind_of-kind.ensures)
+    (sender-place _ _ _ c.requires.0.boxes (sym c.bad_sender-sender.ensures ∙ c.if-sender.false), c.kind_of-kind.ensures)
 
 pub returns-then-ignores : goal.returns-then-ignores
 unfolding arrive
@@ -50,14 +50,14 @@ returns-then-ignores c =
     λ law.
     let a = c.args in
     let f = a.f in
-    says-false _ _ (sym c.bad_sender.ensures ∙ c.if-bad_sender.false)
-    (says-false _ _ (place-by a.member.own f.sender c.bad_place.ensures c.kind_of-kind.ensures c.coordinator-coordinator.ensures c.if-bad_place.false)
-    (says-false _ _ (base-by f.period f.view f.base_view f.base_period c.bad_base.ensures c.kind_of-kind.ensures c.if-bad_base.false)
+    says-false _ _ (sym c.bad_sender-sender.ensures ∙ c.if-sender.false)
+    (says-false _ _ (place-by a.member.own f.sender c.bad_place-place.ensures c.kind_of-kind.ensures c.coordinator-coordinator.ensures c.if-place.false)
+    (says-false _ _ (base-by f.period f.view f.base_view f.base_period c.bad_base-base.ensures c.kind_of-kind.ensures c.if-base.false)
     (says-true _ _ (sym c.ignores.ensures ∙ c.if-ignores.true) (rw c.ignored.ensures (says-ignored _ _ _ _)))))
 
 pub receive-requires : goal.receive-requires
 receive-requires c =
-    (c.requires.0, c.requires.1, sender-place _ _ _ c.requires.0.boxes (sym c.bad_sender.ensures ∙ c.if-bad_sender.false))
+    (c.requires.0, c.requires.1, sender-place _ _ _ c.requires.0.boxes (sym c.bad_sender-sender.ensures ∙ c.if-sender.false))
 
 pub returns : goal.returns
 unfolding arrive
@@ -65,9 +65,9 @@ returns c =
     λ law.
     let a = c.args in
     let f = a.f in
-    says-false _ _ (sym c.bad_sender.ensures ∙ c.if-bad_sender.false)
-    (says-false _ _ (place-by a.member.own f.sender c.bad_place.ensures c.kind_of-kind.ensures c.coordinator-coordinator.ensures c.if-bad_place.false)
-    (says-false _ _ (base-by f.period f.view f.base_view f.base_period c.bad_base.ensures c.kind_of-kind.ensures c.if-bad_base.false)
+    says-false _ _ (sym c.bad_sender-sender.ensures ∙ c.if-sender.false)
+    (says-false _ _ (place-by a.member.own f.sender c.bad_place-place.ensures c.kind_of-kind.ensures c.coordinator-coordinator.ensures c.if-place.false)
+    (says-false _ _ (base-by f.period f.view f.base_view f.base_period c.bad_base-base.ensures c.kind_of-kind.ensures c.if-base.false)
     (says-false _ _ (sym c.ignores.ensures ∙ c.if-ignores.false)
     (rw c.kind_of-kind.ensures at
     (c.receive.ensures law)))))

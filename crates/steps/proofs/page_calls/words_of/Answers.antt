@@ -15,10 +15,10 @@ pub returns : goal.returns
 unfolding words_of
 returns c =
     let e = c.args.entry in
-    let v : List ℤ = c.unwrap_or-command.result in
-    let w₀ = c.bits.ensures ∙ ap twos_complement (to_z-of_z w32 (entry v 0) (record { sfits = search rules })) ∙ ap (λ (l : List ℤ). twos_complement (entry l 0)) c.unwrap_or-command.ensures in
-    let w₁ = c.bits-2.ensures ∙ ap twos_complement (to_z-of_z w32 (entry v 1) (record { sfits = search rules })) ∙ ap (λ (l : List ℤ). twos_complement (entry l 1)) c.unwrap_or-command.ensures in
-    let w₂ = c.bits-3.ensures ∙ ap twos_complement (to_z-of_z w32 (entry v 2) (record { sfits = search rules })) ∙ ap (λ (l : List ℤ). twos_complement (entry l 2)) c.unwrap_or-command.ensures in
-    let w₃ = c.bits-4.ensures ∙ ap twos_complement (to_z-of_z w32 (entry v 3) (record { sfits = search rules })) ∙ ap (λ (l : List ℤ). twos_complement (entry l 3)) c.unwrap_or-command.ensures in
+    let v : List ℤ = c.values-command.result in
+    let w₀ = c.bits.ensures ∙ ap twos_complement (to_z-of_z w32 (entry v 0) (record { sfits = search rules })) ∙ ap (λ (l : List ℤ). twos_complement (entry l 0)) c.values-command.ensures in
+    let w₁ = c.bits-2.ensures ∙ ap twos_complement (to_z-of_z w32 (entry v 1) (record { sfits = search rules })) ∙ ap (λ (l : List ℤ). twos_complement (entry l 1)) c.values-command.ensures in
+    let w₂ = c.bits-3.ensures ∙ ap twos_complement (to_z-of_z w32 (entry v 2) (record { sfits = search rules })) ∙ ap (λ (l : List ℤ). twos_complement (entry l 2)) c.values-command.ensures in
+    let w₃ = c.bits-4.ensures ∙ ap twos_complement (to_z-of_z w32 (entry v 3) (record { sfits = search rules })) ∙ ap (λ (l : List ℤ). twos_complement (entry l 3)) c.values-command.ensures in
     let m : c.from.result ≡ bit (decided e) = c.from.ensures ∙ bit-from _ ∙ ap bit c.is_some.ensures in
     λ i. e.period ∷ e.view ∷ m i ∷ w₀ i ∷ w₁ i ∷ w₂ i ∷ w₃ i ∷ []

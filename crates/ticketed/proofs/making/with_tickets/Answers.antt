@@ -29,7 +29,7 @@ pub copy-requires : goal.copy-requires
 copy-requires c =
     let b = c.args.stored.now in
     let known : is_record b ≡ true = sym (read-is-done b) ∙ ap is_done (sym c.in_ok-read.ensures.answer) in
-    (omega (arith, record-length _ known), omega (arith, c.if-area-lt-TICKETED.false))
+    (record-length _ known, omega (arith, c.if-area-lt-TICKETED.false))
 
 pub returns : goal.returns
 returns c =

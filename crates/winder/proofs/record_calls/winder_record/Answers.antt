@@ -1,6 +1,5 @@
 -- `winder_record` meets its contract. Assumes nothing.
-use Rattle.std.proofs.Common.{◌≡◌, sym, ap, ◌∙◌, true, false, ℕ, List, ◌++◌, drop, length, length-take-le, arith, rules}
-use mathlib.Core.Path.{ap₂}
+use Rattle.std.proofs.Common.{◌≡◌, sym, ap, ◌∙◌, true, false, ℕ, List, length, arith, rules}
 use borrow.Author.Tests.{lt-ltb, le-ltb}
 use Rattle.octets.specs.Words.{AllBytes}
 use Rattle.octets.specs.Areas.{over}
@@ -30,11 +29,11 @@ returns-then-area-lt-RECORD c =
     let m = recording-5 a.replica.now (length a.area.now) known (lt-ltb _ _ c.if-area-lt-RECORD.true) in
     record { answer = c.refusal_number-then-area-lt-RECORD.ensures ∙ sym m.0; area = ap (λ (w : List ℕ). over w a.area.now) (sym m.1) }
 
-pub copy_from_slice-requires : goal.copy_from_slice-requires
-copy_from_slice-requires c =
+pub copy-requires : goal.copy-requires
+copy-requires c =
     let a = c.args in
     let known : is_record a.replica.now ≡ true = sym (read-is-done a.replica.now) ∙ ap is_done (sym c.in_default.ensures.answer) in
-    length-take-le 616 a.area.now (omega (arith, c.if-area-lt-RECORD.false)) ∙ sym (record-length _ known)
+    (record-length _ known, omega (arith, c.if-area-lt-RECORD.false))
 
 pub returns : goal.returns
 unfolding AllBytes
@@ -43,8 +42,4 @@ returns c =
     let known : is_record a.replica.now ≡ true = sym (read-is-done a.replica.now) ∙ ap is_done (sym c.in_default.ensures.answer) in
     let bytes : AllBytes a.replica.now = search rules in
     let m = recording-done a.replica.now (length a.area.now) known bytes (le-ltb _ _ c.if-area-lt-RECORD.false) in
-    record {
-      answer = sym m.0;
-      area = ap₂ (λ (w : List ℕ) k. w ++ drop k a.area.now) c.copy_from_slice.ensures.after (sym (record-length _ known))
-          ∙ ap (λ (w : List ℕ). over w a.area.now) (sym m.1);
-    }
+    record { answer = sym m.0; area = c.copy.ensures ∙ ap (λ (w : List ℕ). over w a.area.now) (sym m.1) }
